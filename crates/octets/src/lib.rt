@@ -1,0 +1,60 @@
+// Writing bytes into a memory that the caller lends: all of them where they lie inside it, else none.
+ghost use mathlib.Core.Path.{_≡_};
+ghost use Prim.Native.Nat.{_≤_};
+ghost use lib.ListN.{length};
+ghost use Rattle.octets.specs.Octets.{little, inside, written};
+
+// Most bytes that a frame can carry: what a copy through a local array has room for.
+const HELD: usize = 9000;
+
+// Writes src into memory from at on, and answers whether it did.
+pub fn write(memory: &mut [u8], at: usize, src: &[u8]) -> bool
+    ensures { λ r. ⌜ r ≡ inside (now (memory .entry)) at (length (now (src .entry))) ⌝ }
+    ensures { λ _. ⌜ now (memory .exit) ≡ written (now (memory .entry)) at (now (src .entry)) ⌝ }
+{
+    let n = src.len();
+    if memory.len() < n {
+        return false;
+    }
+    if memory.len() - n < at {
+        return false;
+    }
+    let end = at + n;
+    copy(&mut memory[at..end], src);
+    true
+}
+
+// dst becomes src, which is as long.
+fn copy(dst: &mut [u8], src: &[u8])
+    requires { ⌜ length (now src) ≡ length (now dst) ⌝ }
+    ensures { λ _. ⌜ now (dst .exit) ≡ now (src .entry) ⌝ }
+{
+    if src.len() <= HELD {
+        copy_held(dst, src);
+    } else {
+        bytes::copy(src, dst);
+    }
+}
+
+// The same for as much as a frame can carry. By way of the local array the compiler sees that what is read is not what is
+// written, and makes one memmove of the two copies, and no array.
+fn copy_held(dst: &mut [u8], src: &[u8])
+    requires { ⌜ (length (now src) ≡ length (now dst)) × (length (now src) ≤ 9000) ⌝ }
+    ensures { λ _. ⌜ now (dst .exit) ≡ now (src .entry) ⌝ }
+{
+    let mut held = [0u8; 9000];
+    let n = bytes::copy(src, &mut held);
+    bytes::copy(&held[..n], dst);
+}
+
+// A number as its four bytes, the lowest first.
+pub fn little4(x: u32) -> [u8; 4]
+    ensures { λ r. ⌜ r ≡ little 4 x ⌝ }
+{
+    [
+        (x % 256) as u8,
+        (x / 256 % 256) as u8,
+        (x / 256 / 256 % 256) as u8,
+        (x / 256 / 256 / 256 % 256) as u8,
+    ]
+}

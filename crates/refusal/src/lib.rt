@@ -1,0 +1,90 @@
+// The numbers of refusals, and the class of a number. A refusal changes nothing.
+ghost use mathlib.Core.Path.{_≡_};
+ghost use Rattle.refusal.specs.Class.{classOf, classNumber};
+
+// ---- of the wire: a frame that can't be read, or is too far ahead
+
+pub const FRAME_SHORT: u8 = 1;
+
+pub const FRAME_LONG: u8 = 2;
+
+pub const FOREIGN_ID: u8 = 3;
+
+pub const RESERVED_FLAG: u8 = 4;
+
+pub const PAST_END: u8 = 5;
+
+pub const FRAME_AHEAD: u8 = 6;
+
+// ---- of a message
+
+pub const TRANS_OUTSIDE: u8 = 7;
+
+pub const TRANS_CLOSED: u8 = 8;
+
+pub const TERMS_DIFFER: u8 = 9;
+
+pub const BARE_WITH_DATA: u8 = 10;
+
+pub const DATA_OUTSIDE: u8 = 11;
+
+pub const COMPLETION_OUTSIDE: u8 = 12;
+
+// ---- of the caller
+
+pub const ID_ZERO: u8 = 13;
+
+pub const BAD_LINE: u8 = 14;
+
+// ---- of the card
+
+pub const TRANS_WINDOW_FULL: u8 = 20;
+
+pub const FRAME_WINDOW_FULL: u8 = 21;
+
+pub const FRAME_FULL: u8 = 22;
+
+pub const TRANS_UNKNOWN: u8 = 23;
+
+pub const NOTHING_TO_SEAL: u8 = 24;
+
+pub const NOT_HELD: u8 = 25;
+
+pub const BAD_SLOTS: u8 = 26;
+
+pub const ADDING_TO_BARE: u8 = 27;
+
+// Other is the class of every number that no list above has.
+pub enum Class {
+    Wire,
+    Message,
+    Caller,
+    Card,
+    Other,
+}
+
+// The class of a refusal number.
+pub fn class_of(n: u32) -> Class
+    ensures { λ r. ⌜ r ≡ classOf n ⌝ }
+{
+    match n {
+        1..=6 => Class::Wire,
+        7..=12 => Class::Message,
+        13 | 14 => Class::Caller,
+        20..=27 => Class::Card,
+        _ => Class::Other,
+    }
+}
+
+// The number that stands for a class where only numbers pass.
+pub fn class_number(c: Class) -> u32
+    ensures { λ r. ⌜ r ≡ classNumber c ⌝ }
+{
+    match c {
+        Class::Other => 0,
+        Class::Wire => 1,
+        Class::Message => 2,
+        Class::Caller => 3,
+        Class::Card => 4,
+    }
+}
