@@ -1,0 +1,40 @@
+-- The frame format: what reading and writing share. A frame is a list of bytes: a frame header of 10 bytes, then messages,
+-- each a message header of 24 bytes and its data.
+use Prim.Native.Nat.{ℕ, _+_, _-_, _*_, _/_, _^_}
+use mathlib.Core.Bool.{cond}
+use mathlib.Core.List.{List}
+use lib.Dec.{ltb}
+use Rattle.wire.specs.declared.MessageHeader.{MessageHeader}
+
+-- One message: its transaction's number, the completion's address (`target`) and value, the count of data messages, and its
+-- own write, `bytes` at the address `at`.
+pub record Message : Type 0 where
+  pub trans : ℕ
+  pub target : ℕ
+  pub value : ℕ
+  pub count : ℕ
+  pub at : ℕ
+  pub bytes : List ℕ
+
+-- The same where code holds the header as a struct and the data as a slice.
+unfoldable pub carrying : MessageHeader → List ℕ → Message
+carrying h bytes = record {
+  trans = h .trans .0;
+  target = h .target;
+  value = h .value;
+  count = h .count;
+  at = h .at;
+  bytes = bytes;
+}
+
+-- Message headers stand at offsets of the form 10 + 8k: the first of these that is not before `end`.
+unfoldable pub nextHeader : ℕ → ℕ
+nextHeader end = 10 + (end - 10 + 7) / 8 * 8
+
+-- The same where code asks it of any machine word: 0 for an end that no slice has.
+unfoldable pub headerAfter : ℕ → ℕ
+headerAfter end = cond (ltb end (2 ^ 63)) (nextHeader end) 0
+
+-- The longest frame there is.
+abbrev pub frameMost : ℕ
+frameMost = 9000

@@ -1,0 +1,51 @@
+// The wire format's types. What a frame's bytes mean, and that what is written reads back, is in specs/ and proofs/; the
+// crates `reader` and `writer` have the code.
+use seq::FrameNo;
+use seq::TransNo;
+ghost use mathlib.Core.Path.{_≡_};
+ghost use Rattle.seq.specs.Ring.{frameSpace, inRange};
+ghost use Rattle.wire.specs.Format.{headerAfter};
+
+// The header of a frame, as it stands on the wire.
+pub struct FrameHeader {
+    pub destination: u16,
+    pub source: u16,
+    pub number: FrameNo,
+    pub ackstart: FrameNo,
+    pub ackcount: u8,
+    pub flags: u8,
+}
+
+impl FrameHeader {
+    // Whether the header's range of acknowledged numbers has n in it.
+    pub fn acknowledges(self, n: FrameNo) -> bool
+        ensures { λ r. ⌜ r ≡ inRange frameSpace (self .ackstart .0) (self .ackcount) (n .0) ⌝ }
+    {
+        let start = self.ackstart;
+        n.distance(start) < self.ackcount as u16
+    }
+}
+
+// Message headers stand at offsets of the form 10 + 8k: the first of these that is not before end. 0 for an end that no slice
+// has.
+pub fn next_header(end: usize) -> usize
+    ensures { λ r. ⌜ r ≡ headerAfter end ⌝ }
+{
+    if 9223372036854775808 <= end {
+        return 0;
+    }
+    if end < 10 {
+        return 10;
+    }
+    10 + (end - 10 + 7) / 8 * 8
+}
+
+// The header of a message: its transaction's number, where its completion goes and what that writes, how many data messages
+// it has, and the address of this one's data. The data's length is that of a slice beside it.
+pub struct MessageHeader {
+    pub trans: TransNo,
+    pub target: u32,
+    pub value: u32,
+    pub count: u16,
+    pub at: u32,
+}
