@@ -1,0 +1,212 @@
+-- What the message at an offset tells, and the walk from message to message over a frame.
+-- Assumes nothing.
+use mathlib.Core.Path.{_≡_, refl, sym, _∙_, ap}
+use mathlib.Core.Bool.{Bool, true, false, cond}
+use mathlib.Core.List.{List, [], _∷_}
+use mathlib.Core.Option.{Option, none, some}
+use Prim.Native.Nat.{ℕ, zero, suc, _+_, _-_, _≤_, _<_}
+use native.Mathlib.Nat.{zero-add, add-zero}
+use native.Mathlib.Decide.{decLe}
+use native.Mathlib.Omega.{arith}
+use borrow.Author.Tests.{le-leb, lt-leb}
+use lib.Dec.{leb, eqb}
+use lib.ListN.{length, take, drop, length-drop}
+use lib.Seq.{length-take-le}
+use Rattle.octets.specs.Octets.{field}
+use Rattle.wire.specs.declared.MessageHeader.{MessageHeader}
+use Rattle.wire.specs.Format.{Message, nextHeader}
+use Rattle.wire.specs.Reading.{
+  Read,
+  bad,
+  good,
+  follows,
+  dataEnd,
+  messageAt,
+  prepend,
+  messagesFrom,
+  orPassesEnd,
+  readFrame,
+  refusalOf,
+}
+use Rattle.wire.proofs.Format.{next-after, next-near}
+use Rattle.reader.specs.declared.Layout.{Layout}
+use Rattle.reader.specs.declared.Layout.the-variants.{Refused, Counts}
+use Rattle.reader.specs.declared.Found.{Found}
+use Rattle.reader.specs.declared.Found.the-variants.{PastEnd, Whole}
+use Rattle.reader.specs.Layout.{total, layoutOf, numberOf, headAt, foundAt, dataAt}
+
+-- ---- the refusal's number
+
+pub number-layout : (r : Read) → numberOf (layoutOf r) ≡ refusalOf r
+number-layout (bad r) = refl
+number-layout (good ms) = refl
+
+-- ---- the message at an offset
+
+pub found-past : (f : List ℕ) (at : ℕ) → length f < dataEnd f at → PastEnd ≡ foundAt f at
+unfolding foundAt
+found-past f at h = rw (lt-leb (dataEnd f at) (length f) h)
+
+pub found-whole : (f : List ℕ) (at : ℕ) → dataEnd f at ≤ length f
+    → Whole (headAt f at) (field f (at + 20) 2) (follows (field f (at + 23) 1)) (nextHeader (dataEnd f at)) ≡ foundAt f at
+unfolding foundAt
+found-whole f at h = rw (le-leb (dataEnd f at) (length f) h)
+
+pub data-past : (f : List ℕ) (at : ℕ) → length f < dataEnd f at → [] ≡ dataAt f at
+unfolding dataAt
+data-past f at h = rw (lt-leb (dataEnd f at) (length f) h)
+
+pub data-whole : (f : List ℕ) (at : ℕ) → dataEnd f at ≤ length f
+    → take (field f (at + 20) 2) (drop (at + 24) f) ≡ dataAt f at
+unfolding dataAt messageAt
+data-whole f at h = rw (le-leb (dataEnd f at) (length f) h)
+
+-- a message that was found lies in the frame, and is what the format says stands there
+pub record IsWhole (f : List ℕ) (at : ℕ) (h : MessageHeader) (len : ℕ) (more : Bool) (next : ℕ) : Type 0 where
+  pub header-is : h ≡ headAt f at
+  pub len-is : len ≡ field f (at + 20) 2
+  pub more-is : more ≡ follows (field f (at + 23) 1)
+  pub next-is : next ≡ nextHeader (dataEnd f at)
+  pub inside-frame : dataEnd f at ≤ length f
+  pub next-beyond : at + 24 + len ≤ next
+  pub next-within : next < length f + 8 + 10
+  pub bytes-are : length (messageAt f at .bytes) ≡ len
+
+pub is-whole : {f : List ℕ} {at : ℕ} {h : MessageHeader} {len : ℕ} {more : Bool} {next : ℕ}
+    → foundAt f at ≡ Whole h len more next → IsWhole f at h len more next
+unfolding messageAt
+is-whole {f} {at} {h} {len} {more} {next} e = go (decLe (dataEnd f at) (length f))
+  where
+    go : Dec (dataEnd f at ≤ length f) → IsWhole f at h len more next
+    go (no past) =
+        let q : PastEnd ≡ Whole h len more next = found-past f at (omega arith) ∙ e in
+        let z : _≡_ {A = ℕ} 0 1 = cc in
+        absurd (omega arith)
+    go (yes inside) =
+        let q = found-whole f at inside ∙ e in
+        let l : len ≡ field f (at + 20) 2 = cc in
+        let n : next ≡ nextHeader (dataEnd f at) = cc in
+        let room : field f (at + 20) 2 ≤ length (drop (at + 24) f) = omega (arith, length-drop (at + 24) f) in
+        record {
+          header-is = cc;
+          len-is = l;
+          more-is = cc;
+          next-is = n;
+          inside-frame = inside;
+          next-beyond = omega (arith, next-after (dataEnd f at));
+          next-within = omega (arith, next-near (dataEnd f at) (omega arith));
+          bytes-are = length-take-le (field f (at + 20) 2) (drop (at + 24) f) room ∙ sym l;
+        }
+
+pub is-past : (f : List ℕ) (at : ℕ) → foundAt f at ≡ PastEnd → length f < dataEnd f at
+is-past f at e = go (decLe (dataEnd f at) (length f))
+  where
+    go : Dec (dataEnd f at ≤ length f) → length f < dataEnd f at
+    go (no past) = omega arith
+    go (yes inside) =
+        let q = found-whole f at inside ∙ e in
+        let z : _≡_ {A = ℕ} 0 1 = cc in
+        absurd (omega arith)
+
+-- ---- the messages from an offset on, one step at a time
+
+module _ (f : List ℕ) (at turns : ℕ) where
+  pub step-past : length f < dataEnd f at → messagesFrom turns f at ≡ none
+  unfolding messagesFrom
+  step-past h = go turns
+    where
+      go : (n : ℕ) → messagesFrom n f at ≡ none
+      go zero = refl
+      go (suc n) = rw (lt-leb (dataEnd f at) (length f) h)
+
+  pub step-last : dataEnd f at ≤ length f → follows (field f (at + 23) 1) ≡ false
+      → messagesFrom (suc turns) f at ≡ some (messageAt f at ∷ [])
+  unfolding messagesFrom
+  step-last h t = rw (le-leb (dataEnd f at) (length f) h, t)
+
+  pub step-more : dataEnd f at ≤ length f → follows (field f (at + 23) 1) ≡ true
+      → messagesFrom (suc turns) f at ≡ prepend (messageAt f at) (messagesFrom turns f (nextHeader (dataEnd f at)))
+  unfolding messagesFrom
+  step-more h t = rw (le-leb (dataEnd f at) (length f) h, t)
+
+-- ---- the walk: m messages with b bytes stood before the offset, and `turns` are enough for the rest
+
+abbrev pub counted : ℕ → ℕ → Option (List Message) → Layout
+counted m b none = Refused 5
+counted m b (some ms) = Counts (m + length ms) (b + total ms)
+
+abbrev pub walked : List ℕ → Layout
+walked f = layoutOf (orPassesEnd (messagesFrom (length f) f 10))
+
+counted-none : (p : Option (List Message)) → layoutOf (orPassesEnd p) ≡ counted 0 0 p
+counted-none none = refl
+counted-none (some ms) = rw (zero-add (length ms), zero-add (total ms))
+
+counted-more : (m b : ℕ) (x : Message) (p : Option (List Message))
+    → counted m b (prepend x p) ≡ counted (m + 1) (b + length (x .bytes)) p
+unfolding total
+counted-more m b x none = refl
+counted-more m b x (some ms) =
+    let e : m + suc (length ms) ≡ m + 1 + length ms = omega arith in
+    let t : b + (length (x .bytes) + total ms) ≡ b + length (x .bytes) + total ms = omega arith in
+    rw (e, t)
+
+pub record Walked (f : List ℕ) (at m b : ℕ) : Type 0 where
+  pub turns : ℕ
+  pub enough : length f < at + turns
+  pub near : at < length f + 18
+  pub messages-low : m ≤ at
+  pub bytes-low : b ≤ at
+  pub is : walked f ≡ counted m b (messagesFrom turns f at)
+
+pub walked-start : (f : List ℕ) → Walked f 10 0 0
+walked-start f =
+    record {
+      turns = length f;
+      enough = omega arith;
+      near = omega arith;
+      messages-low = omega arith;
+      bytes-low = omega arith;
+      is = counted-none (messagesFrom (length f) f 10);
+    }
+
+pub walked-past : {f : List ℕ} {at m b : ℕ} → Walked f at m b → foundAt f at ≡ PastEnd → Refused 5 ≡ walked f
+walked-past {f} {at} {m} {b} w e = sym (w .is ∙ ap (counted m b) (step-past f at (w .turns) (is-past f at e)))
+
+-- what one turn does: there is a turn left for it, as the message lies in the frame
+module _ {f : List ℕ} {at m b : ℕ} {h : MessageHeader} {len : ℕ} {more : Bool} {next : ℕ} (w : Walked f at m b)
+    (e : foundAt f at ≡ Whole h len more next) where
+  i : IsWhole f at h len more next
+  i = is-whole e
+
+  turn-left : (n : ℕ) × (w .turns ≡ suc n)
+  turn-left = go (w .turns) refl
+    where
+      go : (n : ℕ) → w .turns ≡ n → (n : ℕ) × (w .turns ≡ suc n)
+      go zero q = absurd (omega (arith, i .inside-frame, w .enough))
+      go (suc n) q = (n, q)
+
+  pub walked-last : more ≡ false → Counts (m + 1) (b + len) ≡ walked f
+  unfolding total
+  walked-last t =
+      let n = turn-left .0 in
+      sym (w .is ∙ ap (λ (k : ℕ). counted m b (messagesFrom k f at)) (turn-left .1)
+      ∙ ap (counted m b) (step-last f at n (i .inside-frame) (sym (i .more-is) ∙ t))
+      ∙ rw (i .bytes-are, add-zero len))
+
+  pub walked-turn : more ≡ true → Walked f next (m + 1) (b + len)
+  walked-turn t =
+      let n = turn-left .0 in
+      let left : w .turns ≡ suc n = turn-left .1 in
+      record {
+        turns = n;
+        enough = omega (arith, w .enough, i .next-beyond);
+        near = omega (arith, i .next-within);
+        messages-low = omega (arith, w .messages-low, i .next-beyond);
+        bytes-low = omega (arith, w .bytes-low, i .next-beyond);
+        is =
+            w .is ∙ ap (λ (k : ℕ). counted m b (messagesFrom k f at)) left
+            ∙ ap (counted m b) (step-more f at n (i .inside-frame) (sym (i .more-is) ∙ t))
+            ∙ counted-more m b (messageAt f at) (messagesFrom n f (nextHeader (dataEnd f at)))
+            ∙ rw (i .bytes-are, ← i .next-is);
+      }
