@@ -27,6 +27,15 @@ carrying h bytes = record {
   bytes = bytes;
 }
 
+unfoldable pub headOf : Message → MessageHeader
+headOf m = record {
+  trans = record { 0 = m .trans };
+  target = m .target;
+  value = m .value;
+  count = m .count;
+  at = m .at;
+}
+
 -- Message headers stand at offsets of the form 10 + 8k: the first of these that is not before `end`.
 unfoldable pub nextHeader : ℕ → ℕ
 nextHeader end = 10 + (end - 10 + 7) / 8 * 8

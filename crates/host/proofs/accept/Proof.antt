@@ -1,0 +1,45 @@
+-- `host::accept`: the mark and the move of the frame window.
+-- Assumes nothing.
+use native.Mathlib.Omega.{arith}
+use Rattle.host.specs.Passes.{acceptedPair}
+use Rattle.host.proofs.Passes.{run-low}
+use borrow.Author.Needs.{needs}
+use Rattle.host.proofs.accept.Statement.{statement}
+use Rattle.host.proofs.accept.Tie as tie
+use Rattle.host.proofs.accept.Reads as reads
+use Rattle.host.proofs.accept.Lts as lts
+use Rattle.marks.proofs.word64.leading_ones.Reads as leading-ones-reads
+use Rattle.marks.proofs.word64.shifted.Reads as shifted-reads
+use Rattle.marks.proofs.word64.with_mark.Reads as with-mark-reads
+use Rattle.seq.proofs.FrameNo.advance.Reads as advance-reads
+
+with-mark-requires : tie.Need-with-mark-requires
+with-mark-requires c κs = search needs
+
+leading-ones-requires : tie.Need-leading-ones-requires
+leading-ones-requires c κs = search needs
+
+cast-advance : tie.Need-cast-advance
+cast-advance c =
+    omega (arith, c .before .before .before .leading-ones .ensures, run-low (c .before .before .before .before .with-mark .result))
+
+advance-requires : tie.Need-advance-requires
+advance-requires c κs = search needs
+
+shifted-requires : tie.Need-shifted-requires
+shifted-requires c κs = search needs
+
+returns : tie.Need-returns
+unfolding acceptedPair
+returns c = rw (c .before .advance .ensures, c .shifted .ensures, c .before .before .before .before .before .leading-ones .ensures, c .before .before .before .before .before .before .with-mark .ensures)
+
+pub accept-spec : {M : Type 1} → statement M
+accept-spec =
+    tie.close
+    (tie.spec
+    with-mark-requires
+    leading-ones-requires
+    cast-advance
+    advance-requires
+    shifted-requires
+    returns)

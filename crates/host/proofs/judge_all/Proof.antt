@@ -1,0 +1,183 @@
+-- `host::judge_all` judges message by message, as the definition does.
+-- Assumes nothing.
+use mathlib.Core.Path.{_≡_, refl, sym, ap, _∙_}
+use Prim.Native.Nat.{ℕ, suc, _+_, _-_, _/_, _%_, _≤_}
+use native.Mathlib.Numerals.{add-one}
+use native.Mathlib.Omega.{arith}
+use borrow.Author.Needs.{needs}
+use borrow.Author.Tests.{not-true, not-false}
+use lib.ListN.{length}
+use Rattle.transactions.specs.declared.Verdict.{Verdict}
+use Rattle.reader.proofs.Reading.{is-whole, is-past}
+use Rattle.host.proofs.Passes.{
+  JudgingAll,
+  judging-start,
+  still-inside,
+  judging-on,
+  stopped-right,
+  ended-right,
+  Steady,
+  steady-start,
+  in-words,
+  steady-turn,
+  verdict-is,
+  after-is,
+  noted-is,
+  one-is,
+}
+use Rattle.host.proofs.judge_all.Statement.{statement}
+use Rattle.host.proofs.judge_all.Tie as tie
+use Rattle.host.proofs.judge_all.Reads as reads
+use Rattle.host.proofs.judge_all.Lts as lts
+use Rattle.host.proofs.noted.Reads as noted-reads
+use Rattle.host.proofs.one_if.Reads as one-if-reads
+use Rattle.reader.proofs.message_at.Reads as message-at-reads
+use Rattle.transactions.proofs.judge.Reads as judge-reads
+
+abbrev Inv-loop : tie.InvT-loop
+Inv-loop shut f size lowest₀ closed₀ table₀ due₀ messages₀ bytes₀ completed₀ at₀ lowest closed table due messages bytes completed at =
+    Steady f at messages bytes completed table due
+    × JudgingAll f size (record { lowest = lowest₀ .0; closed = closed₀; table = table₀ }) at messages bytes completed
+    (record { lowest = lowest .0; closed = closed; table = table }) due
+
+abbrev μ-loop : tie.MeasureT-loop
+μ-loop shut f size lowest₀ closed₀ table₀ due₀ messages₀ bytes₀ completed₀ at₀ lowest closed table due messages bytes completed at =
+    length f + 18 - at
+
+loop-holds : tie.Need-loop-holds Inv-loop μ-loop
+loop-holds c =
+    let a = c .before .args in
+    let l : length (a .places) ≡ 32 = c .before .good .1 .1 .0 .1 .0 .1 in
+    (steady-start (a .f .now) (a .places) (c .before .pre) l, λ ms e. judging-start (a .f .now) (a .size) _ ms e)
+
+message-at-requires : tie.Need-message-at-requires Inv-loop μ-loop
+message-at-requires c κs = search needs
+
+enum-told : tie.Need-enum-told Inv-loop μ-loop
+enum-told c = search needs
+
+returns : tie.Need-returns Inv-loop μ-loop
+returns c =
+    (λ ms e. absurd (omega (arith, still-inside (c .before .before .before .loop .inv .1 ms e), is-past _ _ (sym (c .before .before .message-at .ensures) ∙ c .enum-told .given .1))), omega (arith, c .before .before .before .loop .inv .0))
+
+enum-known-found : tie.Need-enum-known-found Inv-loop μ-loop
+enum-known-found c = search needs
+
+cast-s : tie.Need-cast-s Inv-loop μ-loop
+cast-s c = search needs
+
+mul-judge : tie.Need-mul-judge Inv-loop μ-loop
+mul-judge c = search needs
+
+array-copy-out-judge : tie.Need-array-copy-out-judge Inv-loop μ-loop
+array-copy-out-judge c = omega arith
+
+judge-requires : tie.Need-judge-requires Inv-loop μ-loop
+judge-requires c κs = search needs
+
+returns-2 : tie.Need-returns-2 Inv-loop μ-loop
+returns-2 c =
+    let w = is-whole (sym (c .before .before .before .before .before .before .before .before .message-at .ensures) ∙ c .before .before .before .before .before .before .found .given .1) in
+    let v = c .before .judge .ensures ∙ verdict-is w _ _ in
+    (λ ms e. stopped-right (c .before .before .before .before .before .before .before .before .before .loop .inv .1 ms e) _ (c .if1 .taken) (ap (λ (v : Verdict). v .refusal) v) refl, omega (arith, c .before .before .before .before .before .before .before .before .before .loop .inv .0))
+
+mul-table : tie.Need-mul-table Inv-loop μ-loop
+mul-table c = search needs
+
+array-set-from-table : tie.Need-array-set-from-table Inv-loop μ-loop
+array-set-from-table c = omega arith
+
+cast-w : tie.Need-cast-w Inv-loop μ-loop
+cast-w c = omega arith
+
+mul-noted : tie.Need-mul-noted Inv-loop μ-loop
+mul-noted c = omega arith
+
+array-read-noted : tie.Need-array-read-noted Inv-loop μ-loop
+array-read-noted c = omega (arith, c .before .before .before .before .before .before .before .before .before .before .before .loop .inv .0)
+
+noted-requires : tie.Need-noted-requires Inv-loop μ-loop
+noted-requires c κs = search needs
+
+mul-due : tie.Need-mul-due Inv-loop μ-loop
+mul-due c = omega arith
+
+array-write-due : tie.Need-array-write-due Inv-loop μ-loop
+array-write-due c = omega (arith, c .before .before .before .before .before .before .before .before .before .before .before .before .loop .inv .0)
+
+add-messages : tie.Need-add-messages Inv-loop μ-loop
+add-messages c = omega (arith, c .before .before .before .before .before .before .before .before .before .before .before .before .loop .inv .0)
+
+cast-bytes : tie.Need-cast-bytes Inv-loop μ-loop
+cast-bytes c = search needs
+
+add-bytes : tie.Need-add-bytes Inv-loop μ-loop
+add-bytes c = omega (arith, c .before .before .before .before .before .before .before .before .before .before .before .before .loop .inv .0, is-whole (sym (c .before .before .before .before .before .before .before .before .before .before .before .message-at .ensures) ∙ c .before .before .before .before .before .before .before .before .before .found .given .1))
+
+one-if-requires : tie.Need-one-if-requires Inv-loop μ-loop
+one-if-requires c κs = search needs
+
+add-completed : tie.Need-add-completed Inv-loop μ-loop
+add-completed c = omega (arith, c .before .before .before .before .before .before .before .before .before .before .before .before .before .loop .inv .0, c .one-if .ensures .1)
+
+returns-3 : tie.Need-returns-3 Inv-loop μ-loop
+returns-3 c =
+    let k = c .before .before .before .before .before .before .before .before .before .before .before .before .before .before .loop in
+    let w = is-whole (sym (c .before .before .before .before .before .before .before .before .before .before .before .before .before .message-at .ensures) ∙ c .before .before .before .before .before .before .before .before .before .before .before .found .given .1) in
+    let v = c .before .before .before .before .before .before .judge .ensures ∙ verdict-is w _ _ in
+    let done = ap (λ (v : Verdict). v .done) v in (
+      λ ms e. ended-right (k .inv .1 ms e) _ (in-words (k .inv .0) w) (sym (ap (λ (v : Verdict). v .refusal) v) ∙ c .before .before .before .before .before .if1 .left)
+          (sym (w .more-is) ∙ not-true _ (c .if2 .taken)) refl (after-is w _ _ _ v) (add-one (k .messages))
+          (ap (λ (n : ℕ). k .bytes + n) (sym (w .bytes-are))) (one-is (k .completed) _ _ _ (c .before .one-if .ensures .0) done)
+          (noted-is (k .due) (k .messages) _ _ _ (c .before .before .noted .ensures) done),
+      omega (arith, k .inv .0, w),
+    )
+
+loop-less : tie.Need-loop-less Inv-loop μ-loop
+loop-less c = omega (arith, c .before .before .before .before .before .before .before .before .before .before .before .before .before .before .loop .inv .0, is-whole (sym (c .before .before .before .before .before .before .before .before .before .before .before .before .before .message-at .ensures) ∙ c .before .before .before .before .before .before .before .before .before .before .before .found .given .1))
+
+loop-again : tie.Need-loop-again Inv-loop μ-loop
+loop-again c =
+    let k = c .before .before .before .before .before .before .before .before .before .before .before .before .before .before .loop in
+    let w = is-whole (sym (c .before .before .before .before .before .before .before .before .before .before .before .before .before .message-at .ensures) ∙ c .before .before .before .before .before .before .before .before .before .before .before .found .given .1) in
+    let v = c .before .before .before .before .before .before .judge .ensures ∙ verdict-is w _ _ in
+    let done = ap (λ (v : Verdict). v .done) v in (
+      steady-turn (k .inv .0) w _ _ _ _ (c .before .one-if .ensures .1),
+      λ ms e. judging-on (k .inv .1 ms e) (in-words (k .inv .0) w) (sym (ap (λ (v : Verdict). v .refusal) v) ∙ c .before .before .before .before .before .if1 .left)
+          (sym (w .more-is) ∙ not-false _ (c .if2 .left)) _ _ _ _ _ _ (w .next-is) (add-one (k .messages))
+          (ap (λ (n : ℕ). k .bytes + n) (sym (w .bytes-are))) (one-is (k .completed) _ _ _ (c .before .one-if .ensures .0) done)
+          (after-is w _ _ _ v) (noted-is (k .due) (k .messages) _ _ _ (c .before .before .noted .ensures) done),
+    )
+
+pub judge-all-spec : {M : Type 1} → statement M
+judge-all-spec =
+    tie.close
+    (tie.spec
+    Inv-loop
+    μ-loop
+    loop-holds
+    message-at-requires
+    enum-told
+    returns
+    enum-known-found
+    cast-s
+    mul-judge
+    array-copy-out-judge
+    judge-requires
+    returns-2
+    mul-table
+    array-set-from-table
+    cast-w
+    mul-noted
+    array-read-noted
+    noted-requires
+    mul-due
+    array-write-due
+    add-messages
+    cast-bytes
+    add-bytes
+    one-if-requires
+    add-completed
+    returns-3
+    loop-less
+    loop-again)

@@ -1,0 +1,43 @@
+-- `host::take_in`: refused and nothing changed, or both passes.
+-- Assumes nothing.
+use mathlib.Core.Path.{sym, ap, _∙_}
+use Rattle.host.specs.Host.{Received, steppedOf}
+use Rattle.host.proofs.Passes.{taken, not-taken}
+use borrow.Author.Needs.{needs}
+use Rattle.host.proofs.take_in.Statement.{statement}
+use Rattle.host.proofs.take_in.Tie as tie
+use Rattle.host.proofs.take_in.Reads as reads
+use Rattle.host.proofs.take_in.Lts as lts
+use Rattle.host.proofs.accept.Reads as accept-reads
+use Rattle.host.proofs.judge_all.Reads as judge-all-reads
+use Rattle.host.proofs.write_all.Reads as write-all-reads
+
+judge-all-requires : tie.Need-judge-all-requires
+judge-all-requires c κs = search needs
+
+returns : tie.Need-returns
+returns c ms e q =
+    let a = c .before .before .before .before .before .before .args in
+    let n = not-taken (a .pair) (a .memory .now) (a .number .0) _ ms (c .before .judge-all .ensures .0 ms e) (c .if1 .taken) in
+    (sym (ap steppedOf n), sym (ap (λ (r : Received). r .memory) n))
+
+write-all-requires : tie.Need-write-all-requires
+write-all-requires c κs = search needs
+
+accept-requires : tie.Need-accept-requires
+accept-requires c κs = search needs
+
+same-length : tie.Need-same-length
+same-length c = search needs
+
+returns-2 : tie.Need-returns-2
+returns-2 c ms e q =
+    let a = c .before .before .before .before .before .before .before .before .before .before .before .before .args in
+    let n = taken (a .pair) (a .f .now) (a .memory .now) (a .number .0) (a .d) _ ms e q (c .before .before .before .before .before .before .before .judge-all .ensures .0 ms e)
+    (c .before .before .before .before .before .before .if1 .left) in
+    (rw (c .accept .ensures) (sym (ap steppedOf n)), c .before .before .before .write-all .ensures ∙ sym (ap (λ (r : Received). r .memory) n))
+
+pub take-in-spec : {M : Type 1} → statement M
+take-in-spec =
+    tie.close
+    (tie.spec judge-all-requires returns write-all-requires accept-requires same-length returns-2)

@@ -1,0 +1,166 @@
+-- The charging host: opening a pair, receiving a frame, and the acknowledgement that an answer calls for.
+use Prim.Native.Nat.{ℕ, zero, suc, _+_, _/_, _^_}
+use mathlib.Core.Bool.{Bool, true, false, cond, _||_}
+use mathlib.Core.List.{List, [], _∷_}
+use lib.Dec.{eqb, leb, ltb}
+use lib.ListN.{length, replicate}
+use Rattle.seq.specs.Ring.{distance, advance, frameSpace}
+use Rattle.marks.specs.Marks.{mark, withMark, leadingOnes}
+use Rattle.octets.specs.Octets.{little, written}
+use Rattle.wire.specs.Format.{Message}
+use Rattle.wire.specs.Reading.{number, flags, addressed, Read, bad, good, readFrame}
+use Rattle.wire.specs.Writing.{ackFrame}
+use Rattle.transactions.specs.declared.Verdict.{Verdict}
+use Rattle.transactions.specs.Transactions.{free, Transactions, verdict, after}
+use Rattle.host.specs.declared.Pair.{Pair}
+use Rattle.host.specs.declared.Refusal.{Refusal}
+use Rattle.host.specs.declared.Sums.{Sums}
+use Rattle.host.specs.declared.Opened.{Opened}
+use Rattle.host.specs.declared.Stepped.{Stepped}
+use Rattle.host.specs.declared.Acknowledgement.{Acknowledgement}
+use Rattle.host.specs.declared.Answer.{Answer}
+use Rattle.host.specs.declared.Answer.the-variants.{Accepted, Again, NoMessages, Refused}
+
+-- ---- opening
+
+-- Next frame 0, nothing received ahead, next transaction 0, none open.
+unfoldable pub fresh : ℕ → ℕ → Pair
+fresh own peer = record {
+  own = own;
+  peer = peer;
+  next = record { 0 = 0 };
+  marks = 0;
+  lowest = record { 0 = 0 };
+  closed = 0;
+  table = replicate 32 free;
+}
+
+-- Refusal 13 where an ID is 0: a refused opening hands back a fresh pair with both IDs 0. Number 0 is no refusal.
+unfoldable pub openedOf : ℕ → ℕ → Opened
+openedOf own peer =
+    cond (eqb own 0 || eqb peer 0)
+    (record { pair = fresh 0 0; refusal = record { number = 13; place = 0 } })
+    (record { pair = fresh own peer; refusal = record { number = 0; place = 0 } })
+
+-- ---- a frame's messages
+
+-- What they come to, message by message.
+pub record Tally : Type 0 where
+  pub transactions : Transactions
+  pub memory : List ℕ
+  pub messages : ℕ
+  pub bytes : ℕ
+  pub completed : ℕ
+
+-- A message's data is written, and straight after it the completion where the message completes its transaction.
+unfoldable pub effect : List ℕ → Message → Bool → List ℕ
+effect memory m done =
+    cond done (written (written memory (m .at) (m .bytes)) (m .target) (little 4 (m .value))) (written memory (m .at) (m .bytes))
+
+unfoldable pub takeIn : Tally → Message → Verdict → Tally
+takeIn t m v = record {
+  transactions = after (t .transactions) m v;
+  memory = effect (t .memory) m (v .done);
+  messages = t .messages + 1;
+  bytes = t .bytes + length (m .bytes);
+  completed = t .completed + cond (v .done) 1 0;
+}
+
+-- All of them fine, or the first that is refused: its number and its index.
+pub data Outcome : Type 0 where
+  fine : Tally → Outcome
+  wrong : ℕ → ℕ → Outcome
+
+-- Each message is judged against what those before it leave.
+unfoldable pub takeAll : Tally → ℕ → List Message → Outcome
+takeAll t place [] = fine t
+takeAll t place (m ∷ ms) =
+    let v = verdict (t .transactions) (length (t .memory)) m in
+    cond (eqb (v .refusal) 0) (takeAll (takeIn t m v) (suc place) ms) (wrong (v .refusal) place)
+
+-- ---- receiving
+
+-- The pair and the memory after a frame, and the answer.
+pub record Received : Type 0 where
+  pub pair : Pair
+  pub memory : List ℕ
+  pub answer : Answer
+
+abbrev pub unchanged : Pair → List ℕ → Answer → Received
+unchanged p memory a = record { pair = p; memory = memory; answer = a }
+
+abbrev pub refused : ℕ → ℕ → Answer
+refused number place = Refused (record { number = number; place = place })
+
+-- The frame's number is marked, and next moves past every consecutive accepted number.
+unfoldable pub accepting : Pair → ℕ → Tally → Received
+accepting p num t =
+    let marked = withMark 64 (p .marks) (distance frameSpace (p .next .0) num) in
+    let run = leadingOnes 64 marked in
+    record {
+      pair = record {
+        own = p .own;
+        peer = p .peer;
+        next = record { 0 = advance frameSpace (p .next .0) run };
+        marks = marked / 2 ^ run;
+        lowest = record { 0 = t .transactions .lowest };
+        closed = t .transactions .closed;
+        table = t .transactions .table;
+      };
+      memory = t .memory;
+      answer = Accepted (record { 0 = num })
+          (record { messages = t .messages; bytes = t .bytes; completed = t .completed });
+    }
+
+abbrev pub concluded : Pair → List ℕ → ℕ → Outcome → Received
+concluded p memory num (fine t) = accepting p num t
+concluded p memory num (wrong r place) = unchanged p memory (refused r place)
+
+abbrev pub transactionsOf : Pair → Transactions
+transactionsOf p = record { lowest = p .lowest .0; closed = p .closed; table = p .table }
+
+abbrev pub tallyOf : Pair → List ℕ → Tally
+tallyOf p memory = record { transactions = transactionsOf p; memory = memory; messages = 0; bytes = 0; completed = 0 }
+
+-- A frame with messages, d past the next one: behind from 32,768 on, in the window up to 63 and ahead between. What is behind,
+-- or in the window and accepted, is answered "again"; what is ahead gets 6; else its messages are taken in.
+unfoldable pub numbered : Pair → List ℕ → ℕ → List Message → Received
+numbered p memory num ms =
+    let d = distance frameSpace (p .next .0) num in
+    cond (leb 32768 d) (unchanged p memory (Again (record { 0 = num })))
+    (cond (leb 64 d) (unchanged p memory (refused 6 0))
+    (cond (mark (p .marks) d) (unchanged p memory (Again (record { 0 = num })))
+    (concluded p memory num (takeAll (tallyOf p memory) 0 ms))))
+
+abbrev pub answered : Pair → List ℕ → List ℕ → Read → Received
+answered p f memory (bad r) = unchanged p memory (refused r 0)
+answered p f memory (good ms) =
+    cond (eqb (flags f) 0) (unchanged p memory NoMessages) (numbered p memory (number f) ms)
+
+unfoldable pub receiveOf : Pair → List ℕ → List ℕ → Received
+receiveOf p f memory = answered p f memory (readFrame (addressed (p .own) (p .peer) f) f)
+
+abbrev pub steppedOf : Received → Stepped
+steppedOf r = record { pair = r .pair; answer = r .answer }
+
+-- ---- acknowledging
+
+-- The frame numbers that an answer acknowledges: `count` of them from `start` on. Accepted and again acknowledge exactly their
+-- own number.
+pub record Range : Type 0 where
+  pub start : ℕ
+  pub count : ℕ
+
+abbrev pub rangeOf : Answer → Range
+rangeOf (Accepted n sums) = record { start = n .0; count = 1 }
+rangeOf (Again n) = record { start = n .0; count = 1 }
+rangeOf NoMessages = record { start = 0; count = 0 }
+rangeOf (Refused r) = record { start = 0; count = 0 }
+
+-- An acknowledgement is due where the range is not empty; it goes from the pair's own ID to the peer's and carries the number
+-- that the caller gives.
+unfoldable pub acknowledgementOf : ℕ → ℕ → Answer → ℕ → Acknowledgement
+acknowledgementOf own peer a num = record {
+  due = ltb 0 (rangeOf a .count);
+  frame = ackFrame peer own num (rangeOf a .start) (rangeOf a .count);
+}

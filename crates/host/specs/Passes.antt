@@ -1,0 +1,104 @@
+-- What the host's two passes over a frame's messages do, for the promises of its private functions: the first judges them all and
+-- notes which of them complete their transaction, the second writes. Nothing of this needs to be believed: `receive` promises
+-- what specs/Host.antt says.
+use Prim.Native.Nat.{ℕ, zero, suc, _+_, _/_, _%_, _^_}
+use mathlib.Core.Path.{_≡_}
+use mathlib.Core.Logic.{_≢_}
+use mathlib.Core.Bool.{Bool, true, false, cond}
+use mathlib.Core.List.{List, [], _∷_}
+use mathlib.Core.Option.{some}
+use lib.Dec.{eqb, leb}
+use lib.ListN.{length, getD, set}
+use Prim.Native.Nat.{_<_}
+use Rattle.seq.specs.Ring.{distance, advance, frameSpace}
+use Rattle.marks.specs.Marks.{mark, withMark, leadingOnes}
+use Rattle.wire.specs.Format.{Message, nextHeader}
+use Rattle.wire.specs.Reading.{dataEnd, messageAt, messagesFrom}
+use Rattle.reader.specs.Layout.{total}
+use Rattle.transactions.specs.declared.Verdict.{Verdict}
+use Rattle.transactions.specs.Transactions.{Transactions, verdict, after}
+use Rattle.host.specs.declared.Judged.{Judged}
+use Rattle.host.specs.declared.Pair.{Pair}
+use Rattle.host.specs.declared.Stepped.{Stepped}
+use Rattle.host.specs.Host.{effect, takeAll, tallyOf, concluded, steppedOf}
+
+-- ---- the first pass
+
+-- Stopped at a message with its refusal and index, or through, with the transactions that are left.
+pub data Course : Type 0 where
+  stopped : ℕ → ℕ → Course
+  through : Transactions → Course
+
+unfoldable pub course : ℕ → ℕ → Transactions → List Message → Course
+course size place t [] = through t
+course size place t (m ∷ ms) =
+    let v = verdict t size m in
+    cond (eqb (v .refusal) 0) (course size (suc place) (after t m v) ms) (stopped (v .refusal) place)
+
+-- Whether the j-th message completes its transaction, and how many do.
+unfoldable pub doneAt : ℕ → Transactions → List Message → ℕ → Bool
+doneAt size t [] j = false
+doneAt size t (m ∷ ms) zero = verdict t size m .done
+doneAt size t (m ∷ ms) (suc j) = doneAt size (after t m (verdict t size m)) ms j
+
+unfoldable pub dones : ℕ → Transactions → List Message → ℕ
+dones size t [] = 0
+dones size t (m ∷ ms) =
+    let v = verdict t size m in
+    cond (v .done) 1 0 + dones size (after t m v) ms
+
+-- Marks of the messages that complete their transaction, 64 to a word.
+unfoldable pub dueAt : List ℕ → ℕ → Bool
+dueAt due j = mark (getD due (j / 64) 0) (j % 64)
+
+unfoldable pub notedWord : ℕ → ℕ → Bool → ℕ
+notedWord word i done = cond done (withMark 64 word i) word
+
+unfoldable pub notedOf : List ℕ → ℕ → Bool → List ℕ
+notedOf due i done = set due (i / 64) (notedWord (getD due (i / 64) 0) (i % 64) done)
+
+pub record RightlyJudged (ms : List Message) (t : Transactions) (size : ℕ) (j : Judged) : Type 0 where
+  pub stops : j .refusal ≢ 0 → course size 0 t ms ≡ stopped (j .refusal) (j .messages)
+  pub goes : j .refusal ≡ 0
+      → course size 0 t ms ≡ through (record { lowest = j .lowest .0; closed = j .closed; table = j .table })
+  pub all-counted : j .refusal ≡ 0 → j .messages ≡ length ms
+  pub bytes-counted : j .refusal ≡ 0 → j .bytes ≡ total ms
+  pub dones-counted : j .refusal ≡ 0 → j .completed ≡ dones size t ms
+  pub dues-marked : j .refusal ≡ 0 → (i : ℕ) → i < length ms → dueAt (j .due) i ≡ doneAt size t ms i
+
+-- The same of a frame: of its messages, if it can be read.
+abbrev pub JudgesFrame : List ℕ → Transactions → ℕ → Judged → Type 0
+JudgesFrame f t size j = (ms : List Message) → messagesFrom (length f) f 10 ≡ some ms → RightlyJudged ms t size j
+
+-- ---- the second pass
+
+-- The messages from an offset on, n at most, written one after another; i is the index of the first.
+unfoldable pub writtenFrom : ℕ → List ℕ → ℕ → List ℕ → ℕ → List ℕ → List ℕ
+writtenFrom zero f at due i memory = memory
+writtenFrom (suc n) f at due i memory =
+    cond (leb (dataEnd f at) (length f))
+    (writtenFrom n f (nextHeader (dataEnd f at)) due (suc i) (effect memory (messageAt f at) (dueAt due i)))
+    memory
+
+-- ---- both
+
+unfoldable pub acceptedPair : Pair → ℕ → Judged → Pair
+acceptedPair p d j =
+    let marked = withMark 64 (p .marks) d in
+    let run = leadingOnes 64 marked in
+    record {
+      own = p .own;
+      peer = p .peer;
+      next = record { 0 = advance frameSpace (p .next .0) run };
+      marks = marked / 2 ^ run;
+      lowest = j .lowest;
+      closed = j .closed;
+      table = j .table;
+    }
+
+-- A frame's messages taken in: what the answer, the pair and the memory are, if the frame can be read.
+abbrev pub TakesFrame : Pair → List ℕ → List ℕ → ℕ → ℕ → Stepped → List ℕ → Type 0
+TakesFrame p f memory num d r left =
+    (ms : List Message) → messagesFrom (length f) f 10 ≡ some ms → d ≡ distance frameSpace (p .next .0) num
+    → (r ≡ steppedOf (concluded p memory num (takeAll (tallyOf p memory) 0 ms)))
+    × (left ≡ concluded p memory num (takeAll (tallyOf p memory) 0 ms) .memory)

@@ -1,0 +1,401 @@
+// The charging host's end of a pair: opening it, receiving a frame with memory lent, and the acknowledgement that an answer calls
+// for. The pair goes in by value and comes back; nothing is written before the last message of a frame is judged.
+use marks::word64;
+use reader::Found;
+use seq::FrameNo;
+use seq::TransNo;
+use transactions::Open;
+use wire::MessageHeader;
+ghost use mathlib.Core.Path.{_≡_};
+ghost use mathlib.Core.Bool.{Bool, true, false, cond};
+ghost use Prim.Native.Nat.{_+_, _≤_, _<_};
+ghost use lib.ListN.{length};
+ghost use Rattle.wire.specs.Format.{carrying};
+ghost use Rattle.host.specs.Host.{
+  fresh,
+  openedOf,
+  effect,
+  receiveOf,
+  steppedOf,
+  acknowledgementOf,
+};
+ghost use Rattle.host.specs.Passes.{notedWord, JudgesFrame, writtenFrom, acceptedPair, TakesFrame};
+
+// What the host knows of its peer's frames and transactions. Bit i of marks stands for the frame next + i and is set where that
+// was accepted; bit i of closed for the transaction lowest + i. An open transaction is in the place of the table that its number
+// modulo 32 gives; a place with none is all zeros.
+pub struct Pair {
+    pub own: u16,
+    pub peer: u16,
+    pub next: FrameNo,
+    pub marks: u64,
+    pub lowest: TransNo,
+    pub closed: u32,
+    pub table: [Open; 32],
+}
+
+// A refusal's number, and the index of the message that it is about, or 0.
+pub struct Refusal {
+    pub number: u8,
+    pub place: u32,
+}
+
+// What an accepted frame brought.
+pub struct Sums {
+    pub messages: u32,
+    pub bytes: u32,
+    pub completed: u32,
+}
+
+// "Again" (01's word) is a frame that was accepted before or lies behind.
+pub enum Answer {
+    Accepted(FrameNo, Sums),
+    Again(FrameNo),
+    NoMessages,
+    Refused(Refusal),
+}
+
+pub struct Opened {
+    pub pair: Pair,
+    pub refusal: Refusal,
+}
+
+pub struct Stepped {
+    pub pair: Pair,
+    pub answer: Answer,
+}
+
+// Ten bytes to be sent where due.
+pub struct Acknowledgement {
+    pub due: bool,
+    pub frame: [u8; 10],
+}
+
+fn fresh_pair(own: u16, peer: u16) -> Pair
+    ensures { λ r. ⌜ r ≡ fresh own peer ⌝ }
+{
+    Pair {
+        own,
+        peer,
+        next: FrameNo(0),
+        marks: 0,
+        lowest: TransNo(0),
+        closed: 0,
+        table: [Open {
+            count: 0,
+            target: 0,
+            value: 0,
+            received: 0,
+        }; 32],
+    }
+}
+
+// Opens a pair; refusal 13 where an ID is 0.
+pub fn open_pair(own: u16, peer: u16) -> Opened
+    ensures { λ r. ⌜ r ≡ openedOf own peer ⌝ }
+{
+    if own == 0 {
+        return Opened {
+            pair: fresh_pair(0, 0),
+            refusal: Refusal {
+                number: refusal::ID_ZERO,
+                place: 0,
+            },
+        };
+    }
+    if peer == 0 {
+        return Opened {
+            pair: fresh_pair(0, 0),
+            refusal: Refusal {
+                number: refusal::ID_ZERO,
+                place: 0,
+            },
+        };
+    }
+    Opened {
+        pair: fresh_pair(own, peer),
+        refusal: Refusal {
+            number: 0,
+            place: 0,
+        },
+    }
+}
+
+// The acknowledgement that an answer calls for, from an end whose next message frame will have this number.
+pub fn acknowledge(own: u16, peer: u16, answer: Answer, number: FrameNo) -> Acknowledgement
+    ensures { λ r. ⌜ r ≡ acknowledgementOf own peer answer (number .0) ⌝ }
+{
+    match answer {
+        Answer::Accepted(n, _) => Acknowledgement {
+            due: true,
+            frame: writer::ack_frame(peer, own, number, n, 1),
+        },
+        Answer::Again(n) => Acknowledgement {
+            due: true,
+            frame: writer::ack_frame(peer, own, number, n, 1),
+        },
+        Answer::NoMessages => Acknowledgement {
+            due: false,
+            frame: writer::ack_frame(peer, own, number, FrameNo(0), 0),
+        },
+        Answer::Refused(_) => Acknowledgement {
+            due: false,
+            frame: writer::ack_frame(peer, own, number, FrameNo(0), 0),
+        },
+    }
+}
+
+// ---- the first pass: every message judged, nothing written
+
+// What it found: a refusal, and then messages is the index of the message that it is about; or none, and then the sums, the
+// transactions as they are after the frame, and marks of the messages that complete theirs.
+struct Judged {
+    pub refusal: u8,
+    pub messages: u32,
+    pub bytes: u32,
+    pub completed: u32,
+    pub lowest: TransNo,
+    pub closed: u32,
+    pub table: [Open; 32],
+    pub due: [u64; 6],
+}
+
+// A word of due with message i of it marked where that completes its transaction.
+fn noted(word: u64, i: u32, done: bool) -> u64
+    ensures { λ r. ⌜ r ≡ notedWord word i done ⌝ }
+{
+    if done {
+        return word64::with_mark(word, i);
+    }
+    word
+}
+
+fn one_if(done: bool) -> u32
+    ensures { λ r. ⌜ (r ≡ cond done 1 0) × (r ≤ 1) ⌝ }
+{
+    if done {
+        return 1;
+    }
+    0
+}
+
+// Judges the messages of a frame that can be read, each against what those before it leave, for a memory of size bytes.
+fn judge_all(low: TransNo, shut: u32, places: [Open; 32], f: &[u8], size: usize) -> Judged
+    requires { ⌜ length (now f) ≤ 9000 ⌝ }
+    ensures { λ r. ⌜ JudgesFrame (now (f .entry)) (record { lowest = low .0; closed = shut; table = places }) size r ⌝ }
+    ensures { λ r. ⌜ r .messages ≤ 375 ⌝ }
+{
+    let mut lowest = low;
+    let mut closed = shut;
+    let mut table = places;
+    let mut due = [0u64; 6];
+    let mut messages: u32 = 0;
+    let mut bytes: u32 = 0;
+    let mut completed: u32 = 0;
+    let mut at = 10;
+    loop {
+        let found = reader::message_at(f, at);
+        match found {
+            Found::PastEnd => {
+                return Judged {
+                    refusal: refusal::PAST_END,
+                    messages,
+                    bytes,
+                    completed,
+                    lowest,
+                    closed,
+                    table,
+                    due,
+                };
+            }
+            Found::Whole(h, len, more, next) => {
+                let trans = h.trans;
+                let s = (trans.0 % 32) as usize;
+                let v = transactions::judge(lowest, closed, table[s], h, len, size);
+                let stop = v.refusal;
+                if stop != 0 {
+                    return Judged {
+                        refusal: stop,
+                        messages,
+                        bytes,
+                        completed,
+                        lowest,
+                        closed,
+                        table,
+                        due,
+                    };
+                }
+                let slot = v.slot;
+                let moved = v.lowest;
+                lowest = moved;
+                closed = v.closed;
+                table[s] = slot;
+                let w = (messages / 64) as usize;
+                due[w] = noted(due[w], messages % 64, v.done);
+                messages += 1;
+                bytes += len as u32;
+                completed += one_if(v.done);
+                if !more {
+                    return Judged {
+                        refusal: 0,
+                        messages,
+                        bytes,
+                        completed,
+                        lowest,
+                        closed,
+                        table,
+                        due,
+                    };
+                }
+                at = next;
+            }
+        }
+    }
+}
+
+// ---- the second pass: every message written
+
+// A message's data at its address, and straight after it the completion where the message completes its transaction.
+fn write_message(memory: &mut [u8], h: MessageHeader, payload: &[u8], done: bool)
+    ensures { λ _. ⌜ now (memory .exit) ≡ effect (now (memory .entry)) (carrying h (now (payload .entry))) done ⌝ }
+{
+    octets::write(memory, h.at as usize, payload);
+    if done {
+        let value = octets::little4(h.value);
+        octets::write(memory, h.target as usize, &value);
+    }
+}
+
+// Writes the first n messages of a frame; due marks those that complete their transaction.
+fn write_all(f: &[u8], memory: &mut [u8], due: [u64; 6], n: u32)
+    requires { ⌜ (length (now f) ≤ 9000) × (n ≤ 375) ⌝ }
+    ensures { λ _. ⌜ now (memory .exit) ≡ writtenFrom n (now (f .entry)) 10 due 0 (now (memory .entry)) ⌝ }
+{
+    let mut at = 10;
+    let mut i: u32 = 0;
+    while i < n {
+        let found = reader::message_at(f, at);
+        match found {
+            Found::PastEnd => {
+                return;
+            }
+            Found::Whole(h, _, _, next) => {
+                let w = (i / 64) as usize;
+                write_message(
+                    memory,
+                    h,
+                    reader::data_at(f, at),
+                    word64::is_marked(due[w], i % 64),
+                );
+                at = next;
+                i += 1;
+            }
+        }
+    }
+}
+
+// ---- receiving
+
+// The pair after a frame d past the next one was accepted: its number is marked, and next moves past every consecutive accepted
+// number.
+fn accept(pair: Pair, d: u16, judged: Judged) -> Pair
+    ensures { λ r. ⌜ r ≡ acceptedPair pair d judged ⌝ }
+{
+    let marked = word64::with_mark(pair.marks, d as u32);
+    let run = word64::leading_ones(marked);
+    let next = pair.next;
+    let lowest = judged.lowest;
+    let table = judged.table;
+    Pair {
+        own: pair.own,
+        peer: pair.peer,
+        next: next.advance(run as u16),
+        marks: word64::shifted(marked, run),
+        lowest,
+        closed: judged.closed,
+        table,
+    }
+}
+
+// A frame that can be read and has messages, d past the next one and not accepted before: its messages are judged, and where
+// none is refused all take effect.
+fn take_in(pair: Pair, f: &[u8], memory: &mut [u8], number: FrameNo, d: u16) -> Stepped
+    requires { ⌜ length (now f) ≤ 9000 ⌝ }
+    ensures { λ r. ⌜ TakesFrame pair (now (f .entry)) (now (memory .entry)) (number .0) d r (now (memory .exit)) ⌝ }
+{
+    let lowest = pair.lowest;
+    let table = pair.table;
+    let judged = judge_all(lowest, pair.closed, table, f, memory.len());
+    let stop = judged.refusal;
+    if stop != 0 {
+        return Stepped {
+            pair,
+            answer: Answer::Refused(Refusal {
+                number: stop,
+                place: judged.messages,
+            }),
+        };
+    }
+    let due = judged.due;
+    write_all(f, memory, due, judged.messages);
+    Stepped {
+        pair: accept(pair, d, judged),
+        answer: Answer::Accepted(
+            number,
+            Sums {
+                messages: judged.messages,
+                bytes: judged.bytes,
+                completed: judged.completed,
+            },
+        ),
+    }
+}
+
+// Receives a frame: answers it, and hands back the pair as it is then. Memory changes only where the frame is accepted.
+pub fn receive(pair: Pair, f: &[u8], memory: &mut [u8]) -> Stepped
+    ensures { λ r. ⌜ r ≡ steppedOf (receiveOf pair (now (f .entry)) (now (memory .entry))) ⌝ }
+    ensures { λ _. ⌜ now (memory .exit) ≡ receiveOf pair (now (f .entry)) (now (memory .entry)) .memory ⌝ }
+{
+    let stop = reader::refusal_of(f, pair.own, pair.peer);
+    if stop != 0 {
+        return Stepped {
+            pair,
+            answer: Answer::Refused(Refusal {
+                number: stop,
+                place: 0,
+            }),
+        };
+    }
+    let head = reader::frame_header(f);
+    if head.flags == 0 {
+        return Stepped {
+            pair,
+            answer: Answer::NoMessages,
+        };
+    }
+    let number = head.number;
+    let next = pair.next;
+    let d = number.distance(next);
+    if 32768 <= d {
+        return Stepped {
+            pair,
+            answer: Answer::Again(number),
+        };
+    }
+    if 64 <= d {
+        return Stepped {
+            pair,
+            answer: Answer::Refused(Refusal {
+                number: refusal::FRAME_AHEAD,
+                place: 0,
+            }),
+        };
+    }
+    if word64::is_marked(pair.marks, d as u32) {
+        return Stepped {
+            pair,
+            answer: Answer::Again(number),
+        };
+    }
+    take_in(pair, f, memory, number, d)
+}

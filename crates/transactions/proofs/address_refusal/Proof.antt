@@ -1,0 +1,37 @@
+-- `transactions::address_refusal`: each test is the definition's.
+-- Assumes nothing.
+use borrow.Author.Tests.{lt-ltb, le-ltb}
+use Rattle.transactions.specs.Transactions.{addressRefusal}
+use borrow.Author.Needs.{needs}
+use Rattle.transactions.proofs.address_refusal.Statement.{statement}
+use Rattle.transactions.proofs.address_refusal.Tie as tie
+use Rattle.transactions.proofs.address_refusal.Reads as reads
+use Rattle.transactions.proofs.address_refusal.Lts as lts
+
+cast-if1 : tie.Need-cast-if1
+cast-if1 c = search needs
+
+add-if1 : tie.Need-add-if1
+add-if1 c = search needs
+
+returns : tie.Need-returns
+unfolding addressRefusal
+returns c = rw (lt-ltb _ _ (c .if1 .taken))
+
+cast-if2 : tie.Need-cast-if2
+cast-if2 c = search needs
+
+add-if2 : tie.Need-add-if2
+add-if2 c = search needs
+
+returns-2 : tie.Need-returns-2
+unfolding addressRefusal
+returns-2 c = rw (le-ltb _ _ (c .before .before .if1 .left), lt-ltb _ _ (c .if2 .taken))
+
+returns-3 : tie.Need-returns-3
+unfolding addressRefusal
+returns-3 c = rw (le-ltb _ _ (c .before .before .if1 .left), le-ltb _ _ (c .if2 .left))
+
+pub address-refusal-spec : {M : Type 1} → statement M
+address-refusal-spec =
+    tie.close (tie.spec cast-if1 add-if1 returns cast-if2 add-if2 returns-2 returns-3)

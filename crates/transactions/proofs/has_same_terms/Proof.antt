@@ -1,0 +1,27 @@
+-- `transactions::has_same_terms`: each field as the definition compares it.
+-- Assumes nothing.
+use borrow.Author.Tests.{eq-eqb, ne-eqb}
+use Rattle.transactions.specs.Transactions.{agrees}
+use Rattle.transactions.proofs.has_same_terms.Statement.{statement}
+use Rattle.transactions.proofs.has_same_terms.Tie as tie
+use Rattle.transactions.proofs.has_same_terms.Reads as reads
+use Rattle.transactions.proofs.has_same_terms.Lts as lts
+
+returns : tie.Need-returns
+unfolding agrees
+returns c = rw (eq-eqb _ _ (c .if1 .taken))
+
+returns-2 : tie.Need-returns-2
+unfolding agrees
+returns-2 c = rw (ne-eqb _ _ (c .before .before .before .if1 .left), ne-eqb _ _ (c .if2 .taken))
+
+returns-3 : tie.Need-returns-3
+unfolding agrees
+returns-3 c = rw (ne-eqb _ _ (c .before .before .before .before .before .before .if1 .left), eq-eqb _ _ (c .before .before .before .if2 .left), ne-eqb _ _ (c .if3 .taken))
+
+returns-4 : tie.Need-returns-4
+unfolding agrees
+returns-4 c = rw (ne-eqb _ _ (c .before .before .before .before .before .before .before .before .if1 .left), eq-eqb _ _ (c .before .before .before .before .before .if2 .left), eq-eqb _ _ (c .before .before .if3 .left))
+
+pub has-same-terms-spec : {M : Type 1} → statement M
+has-same-terms-spec = tie.close (tie.spec returns returns-2 returns-3 returns-4)

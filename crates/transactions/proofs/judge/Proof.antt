@@ -1,0 +1,88 @@
+-- `transactions::judge`: the three verdicts.
+-- Assumes nothing.
+use native.Mathlib.Numerals.{add-one}
+use native.Mathlib.Omega.{arith}
+use Rattle.transactions.specs.Transactions.{refusing, closing, holding}
+use Rattle.transactions.proofs.Judging.{is-refused, is-closing, is-holding}
+use borrow.Author.Needs.{needs}
+use Rattle.transactions.proofs.judge.Statement.{statement}
+use Rattle.transactions.proofs.judge.Tie as tie
+use Rattle.transactions.proofs.judge.Reads as reads
+use Rattle.transactions.proofs.judge.Lts as lts
+use Rattle.marks.proofs.word32.leading_ones.Reads as leading-ones-reads
+use Rattle.marks.proofs.word32.shifted.Reads as shifted-reads
+use Rattle.marks.proofs.word32.with_mark.Reads as with-mark-reads
+use Rattle.seq.proofs.TransNo.advance.Reads as advance-reads
+use Rattle.seq.proofs.TransNo.distance.Reads as distance-reads
+use Rattle.transactions.proofs.first_refusal.Reads as first-refusal-reads
+
+distance-requires : tie.Need-distance-requires
+distance-requires c κs = search needs
+
+first-refusal-requires : tie.Need-first-refusal-requires
+first-refusal-requires c κs = search needs
+
+returns : tie.Need-returns
+unfolding refusing
+returns c =
+    let a = c .before .before .before .before .args in
+    is-refused (a .lowest .0) (a .closed) (a .o) (a .h) (a .len) (a .size) _ _
+    (c .before .before .distance .ensures) (c .before .first-refusal .ensures) (c .if1 .taken)
+
+cast-if2 : tie.Need-cast-if2
+cast-if2 c = search needs
+
+cast-if2-2 : tie.Need-cast-if2-2
+cast-if2-2 c = search needs
+
+add-if2 : tie.Need-add-if2
+add-if2 c = search needs
+
+with-mark-requires : tie.Need-with-mark-requires
+with-mark-requires c κs = search needs
+
+leading-ones-requires : tie.Need-leading-ones-requires
+leading-ones-requires c κs = search needs
+
+advance-requires : tie.Need-advance-requires
+advance-requires c κs = search needs
+
+shifted-requires : tie.Need-shifted-requires
+shifted-requires c κs = search needs
+
+returns-2 : tie.Need-returns-2
+unfolding closing
+returns-2 c =
+    let a = c .before .before .before .before .before .before .before .before .before .before .before .args in
+    rw (c .shifted .ensures, c .before .advance .ensures, c .before .before .leading-ones .ensures, c .before .before .before .with-mark .ensures)
+    (is-closing (a .lowest .0) (a .closed) (a .o) (a .h) (a .len) (a .size) _ _
+    (c .before .before .before .before .before .before .before .before .before .distance .ensures) (c .before .before .before .before .before .before .before .before .first-refusal .ensures) (c .before .before .before .before .before .before .before .if1 .left) (omega arith))
+
+add-t19 : tie.Need-add-t19
+add-t19 c = search needs
+
+returns-3 : tie.Need-returns-3
+unfolding holding
+returns-3 c =
+    let a = c .before .before .before .before .before .before .before .before .args in
+    rw (add-one (a .o .received))
+    (is-holding (a .lowest .0) (a .closed) (a .o) (a .h) (a .len) (a .size) _ _
+    (c .before .before .before .before .before .before .distance .ensures) (c .before .before .before .before .before .first-refusal .ensures) (c .before .before .before .before .if1 .left) (omega arith))
+
+pub judge-spec : {M : Type 1} → statement M
+judge-spec =
+    tie.close
+    (tie.spec
+    distance-requires
+    first-refusal-requires
+    returns
+    cast-if2
+    cast-if2-2
+    add-if2
+    with-mark-requires
+    leading-ones-requires
+    advance-requires
+    shifted-requires
+    returns-2
+    add-t19
+    returns-3)

@@ -1,0 +1,87 @@
+-- `transactions::terms_refusal`: the tests in the definition's order.
+-- Assumes nothing.
+use borrow.Author.Tests.{le-leb, lt-leb, lt-ltb, le-ltb, eq-eqb, ne-eqb}
+use Rattle.transactions.specs.Transactions.{termsRefusal}
+use borrow.Author.Needs.{needs}
+use Rattle.transactions.proofs.terms_refusal.Statement.{statement}
+use Rattle.transactions.proofs.terms_refusal.Tie as tie
+use Rattle.transactions.proofs.terms_refusal.Reads as reads
+use Rattle.transactions.proofs.terms_refusal.Lts as lts
+use Rattle.marks.proofs.word32.is_marked.Reads as is-marked-reads
+use Rattle.transactions.proofs.has_same_terms.Reads as has-same-terms-reads
+
+returns : tie.Need-returns
+unfolding termsRefusal
+returns c = rw (le-leb _ _ (c .if1 .taken))
+
+is-marked-requires : tie.Need-is-marked-requires
+is-marked-requires c κs = search needs
+
+returns-2 : tie.Need-returns-2
+unfolding termsRefusal
+returns-2 c = rw (lt-leb _ _ (c .before .before .if1 .left), ← c .before .is-marked .ensures, c .if2 .taken)
+
+has-same-terms-requires : tie.Need-has-same-terms-requires
+has-same-terms-requires c κs = search needs
+
+returns-3 : tie.Need-returns-3
+unfolding termsRefusal
+returns-3 c =
+    rw (
+      lt-leb _ _ (c .before .before .before .before .if1 .left),
+      ← c .before .before .before .is-marked .ensures,
+      c .before .before .if2 .left,
+      ← c .before .has-same-terms .ensures,
+      c .if3 .taken,
+    )
+
+returns-4 : tie.Need-returns-4
+unfolding termsRefusal
+returns-4 c =
+    rw (
+      lt-leb _ _ (c .before .before .before .before .before .before .before .if1 .left),
+      ← c .before .before .before .before .before .before .is-marked .ensures,
+      c .before .before .before .before .before .if2 .left,
+      ← c .before .before .before .before .has-same-terms .ensures,
+      c .before .before .before .if3 .left,
+      eq-eqb _ _ (c .before .if4 .taken),
+      lt-ltb _ _ (c .if5 .taken),
+    )
+
+returns-5 : tie.Need-returns-5
+unfolding termsRefusal
+returns-5 c =
+    rw (
+      lt-leb _ _ (c .before .before .before .before .before .before .before .if1 .left),
+      ← c .before .before .before .before .before .before .is-marked .ensures,
+      c .before .before .before .before .before .if2 .left,
+      ← c .before .before .before .before .has-same-terms .ensures,
+      c .before .before .before .if3 .left,
+      eq-eqb _ _ (c .before .if4 .taken),
+      le-ltb _ _ (c .if5 .left),
+    )
+
+returns-6 : tie.Need-returns-6
+unfolding termsRefusal
+returns-6 c =
+    rw (
+      lt-leb _ _ (c .before .before .before .before .before .before .if1 .left),
+      ← c .before .before .before .before .before .is-marked .ensures,
+      c .before .before .before .before .if2 .left,
+      ← c .before .before .before .has-same-terms .ensures,
+      c .before .before .if3 .left,
+      ne-eqb _ _ (c .if4 .left),
+    )
+
+pub terms-refusal-spec : {M : Type 1} → statement M
+terms-refusal-spec =
+    tie.close
+    (tie.spec
+    returns
+    is-marked-requires
+    returns-2
+    has-same-terms-requires
+    returns-3
+    returns-4
+    returns-5
+    returns-6)
