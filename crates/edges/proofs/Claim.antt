@@ -1,0 +1,31 @@
+-- The one claim over the list of edges: each is answered as it says, by computing the definitions.
+-- Assumes nothing.
+use mathlib.Core.Path.{_≡_, refl}
+use mathlib.Core.List.{List, map}
+use Rattle.seq.specs.Ring.{distance, advance}
+use Rattle.marks.specs.Marks.{mark, withMark, leading, leadingOnes}
+use Rattle.octets.specs.Octets.{little, value, field, inside, written}
+use Rattle.wire.specs.Format.{headOf, nextHeader}
+use Rattle.wire.specs.Reading.{addressed, follows, messageAt, messagesFrom, readFrame}
+use Rattle.wire.specs.Writing.{frameHead, messageHead, laid, frameOf}
+use Rattle.transactions.specs.Transactions.{
+  needed,
+  agrees,
+  termsRefusal,
+  addressRefusal,
+  fills,
+  refusing,
+  closing,
+  holding,
+  verdictOf,
+  verdict,
+  after,
+}
+use Rattle.host.specs.Host.{effect, takeIn, takeAll, accepting, numbered, receiveOf}
+use Rattle.edges.specs.Edges.{Case, Outcome, outcome, cases}
+
+pub edges-hold : map (λ (c : Case). outcome (c .edge)) cases ≡ map (λ (c : Case). c .answer) cases
+unfolding distance advance mark withMark leading leadingOnes little value field inside written headOf nextHeader addressed
+    follows messageAt messagesFrom readFrame frameHead messageHead laid frameOf needed agrees termsRefusal addressRefusal fills
+    refusing closing holding verdictOf verdict after effect takeIn takeAll accepting numbered receiveOf
+edges-hold = refl

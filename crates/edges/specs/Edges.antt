@@ -1,0 +1,113 @@
+-- Both sides of each edge of the rules: what an end holds, what comes to it, and what it answers. One list.
+use Prim.Native.Nat.{ℕ, _+_}
+use mathlib.Core.Bool.{true}
+use mathlib.Core.List.{List, [], _∷_}
+use lib.ListN.{take, replicate}
+use Rattle.transactions.specs.Transactions.{free}
+use Rattle.wire.specs.Format.{Message}
+use Rattle.wire.specs.Reading.{Read, bad, good, readFrame}
+use Rattle.wire.specs.Writing.{frameOf}
+use Rattle.host.specs.declared.Pair.{Pair}
+use Rattle.host.specs.declared.Answer.{Answer}
+use Rattle.host.specs.declared.Answer.the-variants.{Accepted, Again, NoMessages, Refused}
+use Rattle.host.specs.Host.{receiveOf}
+
+-- ---- what is asked and answered
+
+pub data Edge : Type 0 where
+  -- a pair whose next frame and lowest transaction are these, a memory of so many bytes, and a frame
+  receives : (next lowest memory : ℕ) → List ℕ → Edge
+  -- the reading of a layout
+  reads : List ℕ → Edge
+
+-- An accepted frame and one that comes again; a refusal by its number; a layout.
+pub data Outcome : Type 0 where
+  taken : Outcome
+  again : Outcome
+  nothing : Outcome
+  refused : ℕ → Outcome
+  layout : Read → Outcome
+
+abbrev pub pairAt : ℕ → ℕ → Pair
+pairAt next lowest = record {
+  own = 1;
+  peer = 2;
+  next = record { 0 = next };
+  marks = 0;
+  lowest = record { 0 = lowest };
+  closed = 0;
+  table = replicate 32 free;
+}
+
+abbrev pub told : Answer → Outcome
+told (Accepted n sums) = taken
+told (Again n) = again
+told NoMessages = nothing
+told (Refused r) = refused (r .number)
+
+abbrev pub outcome : Edge → Outcome
+outcome (receives next lowest memory f) = told (receiveOf (pairAt next lowest) f (replicate memory 0) .answer)
+outcome (reads f) = layout (readFrame true f)
+
+-- ---- the frames
+
+-- One message without data, of a transaction of its own: where its completion goes and where its data would.
+abbrev pub bare : (number trans target at : ℕ) → List ℕ
+bare number trans target at =
+    frameOf 1 2 number (record { trans = trans; target = target; value = 0; count = 0; at = at; bytes = [] } ∷ [])
+
+abbrev pub numbered : ℕ → List ℕ
+numbered n = bare n 0 0 0
+
+-- The whole case of the rules, 38 bytes.
+abbrev pub wholeCase : List ℕ
+wholeCase =
+    1 ∷ 0 ∷ 2 ∷ 0 ∷ 0 ∷ 0 ∷ 0 ∷ 0 ∷ 0 ∷ 1
+    ∷ 0 ∷ 0 ∷ 0 ∷ 0 ∷ 64 ∷ 0 ∷ 0 ∷ 0 ∷ 68 ∷ 51 ∷ 34 ∷ 17 ∷ 1 ∷ 0 ∷ 0 ∷ 0
+    ∷ 0 ∷ 0 ∷ 0 ∷ 0 ∷ 4 ∷ 0 ∷ 0 ∷ 0
+    ∷ 10 ∷ 11 ∷ 12 ∷ 13 ∷ []
+
+abbrev pub wholeMessage : Message
+wholeMessage = record {
+  trans = 0;
+  target = 64;
+  value = 287454020;
+  count = 1;
+  at = 0;
+  bytes = 10 ∷ 11 ∷ 12 ∷ 13 ∷ [];
+}
+
+-- ---- the list
+
+pub record Case : Type 0 where
+  pub edge : Edge
+  pub answer : Outcome
+
+abbrev pub is : Edge → Outcome → Case
+is e o = record { edge = e; answer = o }
+
+abbrev pub cases : List Case
+cases =
+    -- E1: from next 0 the frames 0 and 63 are in the window, 64 and 32,767 ahead, 32,768 behind
+    is (receives 0 0 4 (numbered 0)) taken
+    ∷ is (receives 0 0 4 (numbered 63)) taken
+    ∷ is (receives 0 0 4 (numbered 64)) (refused 6)
+    ∷ is (receives 0 0 4 (numbered 32767)) (refused 6)
+    ∷ is (receives 0 0 4 (numbered 32768)) again
+    -- E2: from next 65,530 the frame 3 is 9 on
+    ∷ is (receives 65530 0 4 (numbered 3)) taken
+    -- E3: from next 3 the frame 65,530 is behind
+    ∷ is (receives 3 0 4 (numbered 65530)) again
+    -- E4: from the lowest transaction 4,294,967,290 the number 25 is in the window, and 26 is not
+    ∷ is (receives 0 4294967290 4 (bare 0 25 0 0)) taken
+    ∷ is (receives 0 4294967290 4 (bare 0 26 0 0)) (refused 7)
+    -- E5: in 68 bytes a completion fits at 64, and not at 65
+    ∷ is (receives 0 0 68 (bare 0 0 64 0)) taken
+    ∷ is (receives 0 0 68 (bare 0 0 65 0)) (refused 12)
+    -- E6: in 68 bytes a write of none fits at 68, and not at 69
+    ∷ is (receives 0 0 68 (bare 0 0 0 68)) taken
+    ∷ is (receives 0 0 68 (bare 0 0 0 69)) (refused 11)
+    -- E7: the 38 bytes read as one message, the first 37 of them as cut
+    ∷ is (reads wholeCase) (layout (good (wholeMessage ∷ [])))
+    ∷ is (reads (take 37 wholeCase)) (layout (bad 5))
+    ∷ []

@@ -1,0 +1,4 @@
+pub mod Digits
+pub mod Taking
+pub mod Decoding
+pub mod Text

@@ -1,0 +1,127 @@
+-- `replay::take_piece` stays inside what it is lent, and each turn takes at least one character.
+-- Assumes nothing.
+use mathlib.Core.Path.{_≡_, refl, sym, _∙_}
+use mathlib.Core.List.{List}
+use Prim.Native.Nat.{ℕ, _-_, _<_}
+use native.Mathlib.Omega.{arith}
+use borrow.Author.Needs.{needs}
+use borrow.Author.Tests.{ltb-true}
+use lib.ListN.{length, drop}
+use Rattle.hexline.specs.declared.Line.{Line}
+use Rattle.hexline.specs.declared.Taken.{Taken}
+use Rattle.hexline.specs.Taking.{takenFrom}
+use Rattle.hexline.proofs.Taking.{taken-further}
+use Rattle.replay.proofs.take_piece.Statement.{statement}
+use Rattle.replay.proofs.take_piece.Tie as tie
+use Rattle.replay.proofs.take_piece.Reads as reads
+use Rattle.replay.proofs.take_piece.Lts as lts
+use Rattle.hexline.proofs.Line.start.Reads as start-reads
+use Rattle.hexline.proofs.take_in.Reads as take-in-reads
+use Rattle.replay.proofs.make_room.Reads as make-room-reads
+use Rattle.report.proofs.Totals.with.Reads as with-reads
+use Rattle.report.proofs.answer_line.Reads as answer-line-reads
+use Rattle.report.proofs.put_answer.Reads as put-answer-reads
+
+-- what was taken in ends further on
+further : (t : Taken) (line : Line) (frame : List ℕ) (from : ℕ) (piece : List ℕ)
+    → t ≡ takenFrom line frame from (drop from piece) → from < length piece → from < t .at
+further t line frame from piece e l = rw e (taken-further line frame from piece l)
+
+abbrev Inv-loop : tie.InvT-loop
+Inv-loop piece frame₀ memory₀ out₀ pair₀ line₀ totals₀ lines₀ used₀ at₀ frame memory out pair line totals lines used at =
+    (length frame ≡ length frame₀) × (length memory ≡ length memory₀) × (length out ≡ length out₀)
+
+abbrev μ-loop : tie.MeasureT-loop
+μ-loop piece frame₀ memory₀ out₀ pair₀ line₀ totals₀ lines₀ used₀ at₀ frame memory out pair line totals lines used at =
+    length piece - at
+
+loop-holds : tie.Need-loop-holds Inv-loop μ-loop
+loop-holds c = (refl, refl, refl)
+
+take-in-requires : tie.Need-take-in-requires Inv-loop μ-loop
+take-in-requires c κs = search needs
+
+answer-line-requires : tie.Need-answer-line-requires Inv-loop μ-loop
+answer-line-requires c κs = search needs
+
+make-room-requires : tie.Need-make-room-requires Inv-loop μ-loop
+make-room-requires c κs = search needs
+
+put-answer-requires : tie.Need-put-answer-requires Inv-loop μ-loop
+put-answer-requires c κs = search needs
+
+with-requires : tie.Need-with-requires Inv-loop μ-loop
+with-requires c κs = search needs
+
+start-requires : tie.Need-start-requires Inv-loop μ-loop
+start-requires c κs = search needs
+
+add-lines : tie.Need-add-lines Inv-loop μ-loop
+add-lines c = omega (arith, ltb-true (c .before .before .before .before .before .before .before .before .before .before .before .before .before .before .before .before .before .before .before .before .before .before .loop .lines) 1000000 (c .before .before .before .before .before .before .before .before .before .before .before .before .before .before .before .before .before .before .before .before .if1 .taken))
+
+loop-less : tie.Need-loop-less Inv-loop μ-loop
+loop-less c = omega (arith, further _ _ _ _ _ (c .before .before .before .before .before .before .before .before .before .before .before .before .before .before .before .before .before .before .take-in .ensures .0) (c .before .before .before .before .before .before .before .before .before .before .before .before .before .before .before .before .before .before .before .before .before .loop-test .taken), c .before .before .before .before .before .before .before .before .before .before .before .before .before .before .before .before .before .before .before .before .before .loop-test .taken)
+
+loop-again : tie.Need-loop-again Inv-loop μ-loop
+loop-again c =
+    let k = c .before .before .before .before .before .before .before .before .before .before .before .before .before .before .before .before .before .before .before .before .before .before .loop .inv in
+    (c .before .before .before .before .before .before .before .before .before .before .before .before .before .before .before .before .before .before .take-in .kept .1 .0 ∙ k .0, c .before .before .before .before .before .before .before .before .before .before .before .answer-line .kept .1 .1 .1 .0 ∙ k .1, c .before .before .before .before .put-answer .kept .0 ∙ k .2)
+
+loop-less-2 : tie.Need-loop-less-2 Inv-loop μ-loop
+loop-less-2 c = omega (arith, further _ _ _ _ _ (c .before .before .before .before .take-in .ensures .0) (c .before .before .before .before .before .before .before .loop-test .taken), c .before .before .before .before .before .before .before .loop-test .taken)
+
+loop-again-2 : tie.Need-loop-again-2 Inv-loop μ-loop
+loop-again-2 c =
+    let k = c .before .before .before .before .before .before .before .before .loop .inv in
+    (c .before .before .before .before .take-in .kept .1 .0 ∙ k .0, k .1, k .2)
+
+same-length : tie.Need-same-length Inv-loop μ-loop
+same-length c = c .before .before .loop .inv .0
+
+same-length-2 : tie.Need-same-length-2 Inv-loop μ-loop
+same-length-2 c = c .before .before .loop .inv .1
+
+same-length-3 : tie.Need-same-length-3 Inv-loop μ-loop
+same-length-3 c = c .before .before .loop .inv .2
+
+returns : tie.Need-returns Inv-loop μ-loop
+returns c = search needs
+
+same-length-4 : tie.Need-same-length-4 Inv-loop μ-loop
+same-length-4 c = c .before .loop .inv .0
+
+same-length-5 : tie.Need-same-length-5 Inv-loop μ-loop
+same-length-5 c = c .before .loop .inv .1
+
+same-length-6 : tie.Need-same-length-6 Inv-loop μ-loop
+same-length-6 c = c .before .loop .inv .2
+
+returns-2 : tie.Need-returns-2 Inv-loop μ-loop
+returns-2 c = search needs
+
+pub take-piece-spec : {M : Type 1} → statement M
+take-piece-spec =
+    tie.close
+    (tie.spec
+    Inv-loop
+    μ-loop
+    loop-holds
+    take-in-requires
+    answer-line-requires
+    make-room-requires
+    put-answer-requires
+    with-requires
+    start-requires
+    add-lines
+    loop-less
+    loop-again
+    loop-less-2
+    loop-again-2
+    same-length
+    same-length-2
+    same-length-3
+    returns
+    same-length-4
+    same-length-5
+    same-length-6
+    returns-2)
