@@ -12,7 +12,7 @@ use borrow.Rule.Slice.PartMut.{putMid}
 use lib.Dec.{leb}
 use lib.ListN.{length, take, drop, getD, set, length-append, drop-of-length-le}
 use lib.Seq.{sets, sets-eq, length-sets, length-take-le, take-at, drop-at, drop-append-add, drop-drop, drop-nil, take-nil, take-length, take-append-seam}
-use Rattle.octets.specs.Octets.{little, value, field, inside, written}
+use Rattle.octets.specs.Octets.{Bytes, little, value, field, inside, written}
 
 -- ---- numbers
 
@@ -38,6 +38,11 @@ field-suc (x ∷ xs) (suc at) n = field-suc xs at n
 pub field-zero : (s : List ℕ) (at : ℕ) → field s at 0 ≡ 0
 unfolding field value
 field-zero s at = refl
+
+-- a field of n bytes is below 256 ^ n
+pub field-lt : (s : List ℕ) (at n : ℕ) → Bytes s → field s at n < 256 ^ n
+field-lt s at zero b = omega (arith, field-zero s at)
+field-lt s at (suc n) b = omega (arith, field-suc s at n, b at, field-lt s (suc at) n b, pow-succ' 256 n)
 
 -- fields of one, two and four bytes, byte by byte
 pub field-1 : (s : List ℕ) (at : ℕ) → field s at 1 ≡ getD s at 0

@@ -5,9 +5,10 @@ use mathlib.Core.Logic.{_≢_}
 use mathlib.Core.Bool.{Bool, true, false, cond, not, _&&_, _||_}
 use Prim.Native.Nat.{ℕ, zero, suc, _+_, _≤_, _<_}
 use native.Mathlib.Omega.{arith}
-use borrow.Author.Tests.{le-leb, lt-leb, eq-eqb, ne-eqb}
+use borrow.Author.Tests.{le-leb, lt-leb, leb-false, eq-eqb, ne-eqb, eqb-true}
 use lib.Dec.{eqb, leb}
 use Rattle.seq.specs.Ring.{distance, transSpace}
+use Rattle.marks.specs.Marks.{mark}
 use Rattle.wire.specs.declared.MessageHeader.{MessageHeader}
 use Rattle.transactions.specs.declared.Open.{Open}
 use Rattle.transactions.specs.declared.Verdict.{Verdict}
@@ -63,3 +64,66 @@ module _ (lowest closed : ℕ) (o : Open) (h : MessageHeader) (len size d r : �
 
   pub is-holding : r ≡ 0 → suc (o .received) < h .count → holding lowest closed o h ≡ verdictOf lowest closed o h len size
   is-holding e l = sym (rw (eq-eqb r 0 e, fills-no o h l)) ∙ opened
+
+-- ---- a message that is not refused
+
+first-none : (a b : ℕ) → firstOf a b ≡ 0 → a ≡ 0
+first-none a b e = go (eqb a 0) refl
+  where
+    go : (x : Bool) → eqb a 0 ≡ x → a ≡ 0
+    go true z = eqb-true a 0 z
+    go false z = rw z at e
+
+-- refusals 7 and 8
+pub terms-pass : (d closed : ℕ) (o : Open) (h : MessageHeader) (len : ℕ) → termsRefusal d closed o h len ≡ 0
+    → (d < 32) × (mark closed d ≡ false)
+unfolding termsRefusal
+terms-pass d closed o h len e = go (leb 32 d) refl (mark closed d) refl
+  where
+    go : (a : Bool) → leb 32 d ≡ a → (b : Bool) → mark closed d ≡ b → (d < 32) × (mark closed d ≡ false)
+    go true z b w =
+        let q : _≡_ {A = ℕ} 7 0 = rw z at e in
+        absurd (omega arith)
+    go false z true w =
+        let q : _≡_ {A = ℕ} 8 0 = rw (z, w) at e in
+        absurd (omega arith)
+    go false z false w = (leb-false 32 d z, w)
+
+-- one that does not fill its transaction: with it, fewer were received than the count
+pub fills-left : (o : Open) (h : MessageHeader) → fills o h ≡ false → suc (o .received) < h .count
+unfolding fills needed
+fills-left o h e = go (h .count) (leb-false (needed (h .count)) (suc (o .received)) e)
+  where
+    go : (n : ℕ) → suc (o .received) < needed n → suc (o .received) < n
+    go zero l = omega arith
+    go (suc n) l = omega (arith, needed-count (suc n) (omega arith))
+
+-- its transaction is in the window and not closed, and is closed by it or held
+module _ (lowest closed : ℕ) (o : Open) (h : MessageHeader) (len size : ℕ)
+    (passes : verdictOf lowest closed o h len size .refusal ≡ 0) where
+  abbrev away : ℕ
+  away = distance transSpace lowest (h .trans .0)
+
+  abbrev none-of : ℕ
+  none-of = firstOf (termsRefusal away closed o h len) (addressRefusal size h len)
+
+  passed : none-of ≡ 0
+  unfolding verdictOf refusing
+  passed = go (eqb none-of 0) refl
+    where
+      go : (x : Bool) → eqb none-of 0 ≡ x → none-of ≡ 0
+      go true z = eqb-true none-of 0 z
+      go false z = rw z at passes
+
+  pub in-window : (distance transSpace lowest (h .trans .0) < 32)
+      × (mark closed (distance transSpace lowest (h .trans .0)) ≡ false)
+  in-window = terms-pass away closed o h len (first-none _ _ passed)
+
+  pub closes : fills o h ≡ true
+      → verdictOf lowest closed o h len size ≡ closing lowest closed (distance transSpace lowest (h .trans .0))
+  unfolding verdictOf
+  closes e = rw (eq-eqb none-of 0 passed, e)
+
+  pub holds : fills o h ≡ false → verdictOf lowest closed o h len size ≡ holding lowest closed o h
+  unfolding verdictOf
+  holds e = rw (eq-eqb none-of 0 passed, e)

@@ -9,10 +9,10 @@ use native.Mathlib.Nat.{add-zero}
 use native.Mathlib.Omega.{arith}
 use borrow.Author.Tests.{le-leb, le-ltb, ne-eqb}
 use lib.Dec.{leb, ltb, eqb}
-use lib.ListN.{length, take, drop, replicate, length-append}
+use lib.ListN.{length, take, drop, replicate, length-append, length-take}
 use lib.Seq.{take-append-seam, drop-append-add}
-use Rattle.octets.specs.Octets.{little, value, field}
-use Rattle.octets.proofs.Octets.{value-little, field-behind}
+use Rattle.octets.specs.Octets.{Bytes, little, value, field}
+use Rattle.octets.proofs.Octets.{value-little, field-behind, field-lt}
 use Rattle.seq.specs.Ring.{frameSpace, transSpace, distance, inRange}
 use Rattle.wire.specs.Format.{Message, nextHeader}
 use Rattle.wire.specs.Reading.{
@@ -35,6 +35,7 @@ use Rattle.wire.specs.Reading.{
   acknowledges,
 }
 use Rattle.wire.specs.Writing.{frameHead, messageHead, endOf, gapAt, laid, frameOf, ackFrame}
+use Rattle.wire.proofs.Reading.{Headed, unread, headed}
 use Rattle.wire.proofs.Format.{
   length-frameHead,
   length-front,
@@ -57,6 +58,36 @@ pub record Fits (m : Message) : Type 0 where
 abbrev pub AllFit : List Message → Type 0
 AllFit [] = Unit {0}
 AllFit (m ∷ ms) = Fits m × AllFit ms
+
+-- ---- messages read from a frame of bytes fit
+
+message-fits : (f : List ℕ) (at : ℕ) → Bytes f → Fits (messageAt f at)
+unfolding messageAt
+message-fits f at b =
+    record {
+      trans-fits = field-lt f at 4 b;
+      target-fits = field-lt f (at + 4) 4 b;
+      value-fits = field-lt f (at + 8) 4 b;
+      count-fits = field-lt f (at + 12) 2 b;
+      at-fits = field-lt f (at + 16) 4 b;
+      bytes-fit =
+          omega (arith, length-take (field f (at + 20) 2) (drop (at + 24) f), field-lt f (at + 20) 2 b);
+    }
+
+pub messages-fit : (n : ℕ) (f : List ℕ) (at : ℕ) (ms : List Message) → Bytes f → messagesFrom n f at ≡ some ms → AllFit ms
+messages-fit zero f at ms b e = absurd (unread f at ms e)
+messages-fit (suc n) f at ms b e =
+    all (headed f n at ms e) (λ rest q. messages-fit n f (nextHeader (dataEnd f at)) rest b q)
+  where
+    all : Headed f at n ms
+        → ((rest : List Message) → messagesFrom n f (nextHeader (dataEnd f at)) ≡ some rest → AllFit rest) → AllFit ms
+    all h ih = rw (h .is) (message-fits f at b, go (follows (field f (at + 23) 1)) refl)
+      where
+        go : (x : Bool) → follows (field f (at + 23) 1) ≡ x → AllFit (h .rest)
+        go false z = rw (h .last z) tt
+        go true z = ih (h .rest) (h .more z)
+
+-- ---- what is written
 
 -- a message's header and data, behind some bytes and with some bytes after it
 module _ (before : List ℕ) (m : Message) (f : Fits m) (trailing : ℕ) (rest : List ℕ) where
