@@ -1,6 +1,7 @@
-//! Safe functions over the proved static library: a frame's layout and the class
-//! of a refusal number, one number a call. Any bytes may be lent; the declarations
-//! below are checked against the library by the tests alone.
+//! Safe functions over the proved static libraries: a frame's layout and the class
+//! of a refusal number, one number a call, and a host that is fed many frames in one.
+//! Any bytes may be lent; the declarations below are checked against the libraries
+//! by the tests alone.
 
 mod ffi {
     // A slice crosses the boundary as a pointer and then a length.
@@ -16,6 +17,13 @@ mod ffi {
         pub fn lw_data_bytes(frame: *const u8, length: usize) -> u32;
         // Takes a number and answers one, so nothing can go wrong in calling it.
         pub safe fn lw_refusal_class(number: u32) -> u32;
+        pub fn lw_host_run(
+            frames: *const u8,
+            frames_length: usize,
+            size: usize,
+            memory: *mut u8,
+            memory_length: usize,
+        ) -> u64;
     }
 }
 
@@ -74,4 +82,22 @@ pub fn data_bytes(frame: &[u8]) -> u32 {
 /// The class of a number: 0 none, 1 wire, 2 message, 3 caller, 4 card.
 pub fn refusal_class(number: u32) -> u32 {
     ffi::lw_refusal_class(number)
+}
+
+/// Lets a fresh host of own ID 1 and peer 2 receive the frames of `size` bytes each
+/// that stand one behind another; a rest shorter than that is ignored, and a size of 0
+/// receives nothing. Writes what they say into `memory` and answers the sum of the
+/// data bytes of the accepted ones, modulo 2^64.
+pub fn host_run(frames: &[u8], size: usize, memory: &mut [u8]) -> u64 {
+    // SAFETY: both pairs of pointer and length are those of slices, which stay
+    // borrowed during the call, the memory for writing; none of them is kept.
+    unsafe {
+        ffi::lw_host_run(
+            frames.as_ptr(),
+            frames.len(),
+            size,
+            memory.as_mut_ptr(),
+            memory.len(),
+        )
+    }
 }
