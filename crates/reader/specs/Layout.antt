@@ -1,13 +1,13 @@
 -- What the reading functions answer, by cases of what the format says of a frame.
 use Prim.Native.Nat.{ℕ, _+_}
-use mathlib.Core.Bool.{Bool, cond}
+use mathlib.Core.Bool.{Bool, cond, not}
 use mathlib.Core.List.{List, [], _∷_}
-use lib.Dec.{leb}
+use lib.Dec.{leb, ltb}
 use lib.ListN.{length, take, drop}
 use Rattle.octets.specs.Octets.{field}
 use Rattle.wire.specs.declared.FrameHeader.{FrameHeader}
 use Rattle.wire.specs.declared.MessageHeader.{MessageHeader}
-use Rattle.wire.specs.Format.{Message, nextHeader}
+use Rattle.wire.specs.Format.{Message, nextHeader, frameMost}
 use Rattle.wire.specs.Reading.{
   Read,
   bad,
@@ -37,6 +37,12 @@ headerOf f = record {
   ackcount = ackCount f;
   flags = flags f;
 }
+
+-- Refusals 1 to 4, which the frame's length and header decide; 0 for none.
+unfoldable pub headingOf : Bool → List ℕ → ℕ
+headingOf ids f =
+    cond (ltb (length f) 10) 1
+    (cond (ltb frameMost (length f)) 2 (cond (not ids) 3 (cond (ltb 1 (flags f)) 4 0)))
 
 -- A layout: the refusal's number, or how many messages the frame has and how many data bytes they carry.
 unfoldable pub total : List Message → ℕ

@@ -11,6 +11,7 @@ ghost use Rattle.octets.specs.Octets.{field};
 ghost use Rattle.wire.specs.Reading.{addressed, readFrame, refusalOf, orPassesEnd, messagesFrom};
 ghost use Rattle.reader.specs.Layout.{
   headerOf,
+  headingOf,
   layoutOf,
   numberOf,
   messagesOf,
@@ -220,24 +221,34 @@ fn walk(f: &[u8]) -> Layout
     }
 }
 
+// Refusals 1 to 4, which the frame's length and header decide.
+fn heading(f: &[u8], ids: bool) -> u8
+    ensures { λ r. ⌜ r ≡ headingOf ids (now (f .entry)) ⌝ }
+{
+    if f.len() < 10 {
+        return refusal::FRAME_SHORT;
+    }
+    if FRAME_MOST < f.len() {
+        return refusal::FRAME_LONG;
+    }
+    if !ids {
+        return refusal::FOREIGN_ID;
+    }
+    if 1 < byte_or_zero(f, 9) {
+        return refusal::RESERVED_FLAG;
+    }
+    0
+}
+
 // The layout where the two IDs are the expected ones or not.
 fn layout_where(f: &[u8], ids: bool) -> Layout
     ensures { λ r. ⌜ r ≡ layoutOf (readFrame ids (now (f .entry))) ⌝ }
 {
-    if f.len() < 10 {
-        return Layout::Refused(refusal::FRAME_SHORT);
+    let stop = heading(f, ids);
+    if stop != 0 {
+        return Layout::Refused(stop);
     }
-    if FRAME_MOST < f.len() {
-        return Layout::Refused(refusal::FRAME_LONG);
-    }
-    if !ids {
-        return Layout::Refused(refusal::FOREIGN_ID);
-    }
-    let flags = byte_or_zero(f, 9);
-    if 1 < flags {
-        return Layout::Refused(refusal::RESERVED_FLAG);
-    }
-    if flags == 0 {
+    if byte_or_zero(f, 9) == 0 {
         return Layout::Counts(0, 0);
     }
     walk(f)
@@ -265,4 +276,12 @@ pub fn refusal_of(f: &[u8], own: u16, peer: u16) -> u8
     ensures { λ r. ⌜ r ≡ refusalOf (readFrame (addressed own peer (now (f .entry))) (now (f .entry))) ⌝ }
 {
     layout_where(f, is_addressed(f, own, peer)).refusal()
+}
+
+// The first of refusals 1 to 4 of a frame that has come to own and should be from peer, and 0 where there is none: then only its
+// messages are left to read.
+pub fn heading_refusal(f: &[u8], own: u16, peer: u16) -> u8
+    ensures { λ r. ⌜ r ≡ headingOf (addressed own peer (now (f .entry))) (now (f .entry)) ⌝ }
+{
+    heading(f, is_addressed(f, own, peer))
 }
