@@ -3,24 +3,35 @@
 -- what specs/Host.antt says.
 use Prim.Native.Nat.{ℕ, zero, suc, _+_, _/_, _%_, _^_}
 use mathlib.Core.Path.{_≡_}
-use mathlib.Core.Logic.{_≢_}
+use mathlib.Core.Logic.{_≢_, _⊎_}
 use mathlib.Core.Bool.{Bool, true, false, cond}
 use mathlib.Core.List.{List, [], _∷_}
 use mathlib.Core.Option.{some}
 use lib.Dec.{eqb, leb}
 use lib.ListN.{length, getD, set}
-use Prim.Native.Nat.{_<_}
+use Prim.Native.Nat.{_≤_, _<_}
 use Rattle.seq.specs.Ring.{distance, advance, frameSpace}
 use Rattle.marks.specs.Marks.{mark, withMark, leadingOnes}
 use Rattle.wire.specs.Format.{Message, nextHeader}
-use Rattle.wire.specs.Reading.{dataEnd, messageAt, messagesFrom}
-use Rattle.reader.specs.Layout.{total}
+use Rattle.wire.specs.Reading.{
+  number,
+  flags,
+  addressed,
+  dataEnd,
+  messageAt,
+  messagesFrom,
+  orPassesEnd,
+  readFrame,
+  refusalOf,
+}
+use Rattle.reader.specs.declared.Layout.the-variants.{Counts}
+use Rattle.reader.specs.Layout.{total, layoutOf}
 use Rattle.transactions.specs.declared.Verdict.{Verdict}
 use Rattle.transactions.specs.Transactions.{Transactions, verdict, after}
 use Rattle.host.specs.declared.Judged.{Judged}
 use Rattle.host.specs.declared.Pair.{Pair}
 use Rattle.host.specs.declared.Stepped.{Stepped}
-use Rattle.host.specs.Host.{effect, takeAll, tallyOf, concluded, steppedOf}
+use Rattle.host.specs.Host.{effect, refused, receiveOf, steppedOf}
 
 -- ---- the first pass
 
@@ -96,9 +107,34 @@ acceptedPair p d j =
       table = j .table;
     }
 
--- A frame's messages taken in: what the answer, the pair and the memory are, if the frame can be read.
+-- Where nothing is refused, the whole layout was read.
+abbrev pub LayoutWhole : List ℕ → Judged → Type 0
+LayoutWhole f j =
+    j .refusal ≡ 0 → Counts (j .messages) (j .bytes) ≡ layoutOf (orPassesEnd (messagesFrom (length f) f 10))
+
+-- A frame with messages whose header is in order.
+pub record Awaited (p : Pair) (f : List ℕ) (num d : ℕ) : Type 0 where
+  pub least : 10 ≤ length f
+  pub most : length f ≤ 9000
+  pub mine : addressed (p .own) (p .peer) f ≡ true
+  pub flag : flags f ≡ 1
+  pub num-is : num ≡ number f
+  pub d-is : d ≡ distance frameSpace (p .next .0) num
+
+-- What is made of it where its number is new, and where it is not: then memory is not touched.
 abbrev pub TakesFrame : Pair → List ℕ → List ℕ → ℕ → ℕ → Stepped → List ℕ → Type 0
 TakesFrame p f memory num d r left =
-    (ms : List Message) → messagesFrom (length f) f 10 ≡ some ms → d ≡ distance frameSpace (p .next .0) num
-    → (r ≡ steppedOf (concluded p memory num (takeAll (tallyOf p memory) 0 ms)))
-    × (left ≡ concluded p memory num (takeAll (tallyOf p memory) 0 ms) .memory)
+    Awaited p f num d → d < 64 → mark (p .marks) d ≡ false
+    → (r ≡ steppedOf (receiveOf p f memory)) × (left ≡ receiveOf p f memory .memory)
+
+abbrev pub AnswersOld : Pair → List ℕ → ℕ → ℕ → Stepped → Type 0
+AnswersOld p f num d r =
+    (memory : List ℕ) → Awaited p f num d → (64 ≤ d) ⊎ (mark (p .marks) d ≡ true)
+    → (r ≡ steppedOf (receiveOf p f memory)) × (memory ≡ receiveOf p f memory .memory)
+
+-- A refusal of a message, where the layout of the messages behind it is not known yet: 5 comes first.
+unfoldable pub refusedWith : Pair → List ℕ → ℕ → ℕ → Stepped
+refusedWith p f stop place =
+    cond (eqb (refusalOf (readFrame (addressed (p .own) (p .peer) f) f)) 0)
+    (record { pair = p; answer = refused stop place })
+    (record { pair = p; answer = refused (refusalOf (readFrame (addressed (p .own) (p .peer) f) f)) 0 })

@@ -19,7 +19,16 @@ ghost use Rattle.host.specs.Host.{
   steppedOf,
   acknowledgementOf,
 };
-ghost use Rattle.host.specs.Passes.{notedWord, JudgesFrame, writtenFrom, acceptedPair, TakesFrame};
+ghost use Rattle.host.specs.Passes.{
+  notedWord,
+  JudgesFrame,
+  writtenFrom,
+  acceptedPair,
+  LayoutWhole,
+  TakesFrame,
+  AnswersOld,
+  refusedWith,
+};
 
 // What the host knows of its peer's frames and transactions. Bit i of marks stands for the frame next + i and is set where that
 // was accepted; bit i of closed for the transaction lowest + i. An open transaction is in the place of the table that its number
@@ -184,6 +193,7 @@ fn judge_all(low: TransNo, shut: u32, places: [Open; 32], f: &[u8], size: usize)
     requires { ⌜ length (now f) ≤ 9000 ⌝ }
     ensures { λ r. ⌜ JudgesFrame (now (f .entry)) (record { lowest = low .0; closed = shut; table = places }) size r ⌝ }
     ensures { λ r. ⌜ r .messages ≤ 375 ⌝ }
+    ensures { λ r. ⌜ LayoutWhole (now (f .entry)) r ⌝ }
 {
     let mut lowest = low;
     let mut closed = shut;
@@ -317,8 +327,31 @@ fn accept(pair: Pair, d: u16, judged: Judged) -> Pair
     }
 }
 
-// A frame that can be read and has messages, d past the next one and not accepted before: its messages are judged, and where
-// none is refused all take effect.
+// A frame of which a message is refused: its layout, behind that message too, is judged first.
+fn refuse(pair: Pair, f: &[u8], stop: u8, place: u32) -> Stepped
+    ensures { λ r. ⌜ r ≡ refusedWith pair (now (f .entry)) stop place ⌝ }
+{
+    let cut = reader::refusal_of(f, pair.own, pair.peer);
+    if cut != 0 {
+        return Stepped {
+            pair,
+            answer: Answer::Refused(Refusal {
+                number: cut,
+                place: 0,
+            }),
+        };
+    }
+    Stepped {
+        pair,
+        answer: Answer::Refused(Refusal {
+            number: stop,
+            place,
+        }),
+    }
+}
+
+// A frame with messages, d past the next one and not accepted before: its messages are judged, and where none is refused all
+// take effect. The first pass finds a bad layout by itself.
 fn take_in(pair: Pair, f: &[u8], memory: &mut [u8], number: FrameNo, d: u16) -> Stepped
     requires { ⌜ length (now f) ≤ 9000 ⌝ }
     ensures { λ r. ⌜ TakesFrame pair (now (f .entry)) (now (memory .entry)) (number .0) d r (now (memory .exit)) ⌝ }
@@ -328,13 +361,7 @@ fn take_in(pair: Pair, f: &[u8], memory: &mut [u8], number: FrameNo, d: u16) -> 
     let judged = judge_all(lowest, pair.closed, table, f, memory.len());
     let stop = judged.refusal;
     if stop != 0 {
-        return Stepped {
-            pair,
-            answer: Answer::Refused(Refusal {
-                number: stop,
-                place: judged.messages,
-            }),
-        };
+        return refuse(pair, f, stop, judged.messages);
     }
     let due = judged.due;
     write_all(f, memory, due, judged.messages);
@@ -351,12 +378,47 @@ fn take_in(pair: Pair, f: &[u8], memory: &mut [u8], number: FrameNo, d: u16) -> 
     }
 }
 
+// A frame with messages whose number is not new: its layout is judged all the same.
+fn answer_old(pair: Pair, f: &[u8], number: FrameNo, d: u16) -> Stepped
+    ensures { λ r. ⌜ AnswersOld pair (now (f .entry)) (number .0) d r ⌝ }
+{
+    let cut = reader::refusal_of(f, pair.own, pair.peer);
+    if cut != 0 {
+        return Stepped {
+            pair,
+            answer: Answer::Refused(Refusal {
+                number: cut,
+                place: 0,
+            }),
+        };
+    }
+    if 32768 <= d {
+        return Stepped {
+            pair,
+            answer: Answer::Again(number),
+        };
+    }
+    if d < 64 {
+        return Stepped {
+            pair,
+            answer: Answer::Again(number),
+        };
+    }
+    Stepped {
+        pair,
+        answer: Answer::Refused(Refusal {
+            number: refusal::FRAME_AHEAD,
+            place: 0,
+        }),
+    }
+}
+
 // Receives a frame: answers it, and hands back the pair as it is then. Memory changes only where the frame is accepted.
 pub fn receive(pair: Pair, f: &[u8], memory: &mut [u8]) -> Stepped
     ensures { λ r. ⌜ r ≡ steppedOf (receiveOf pair (now (f .entry)) (now (memory .entry))) ⌝ }
     ensures { λ _. ⌜ now (memory .exit) ≡ receiveOf pair (now (f .entry)) (now (memory .entry)) .memory ⌝ }
 {
-    let stop = reader::refusal_of(f, pair.own, pair.peer);
+    let stop = reader::heading_refusal(f, pair.own, pair.peer);
     if stop != 0 {
         return Stepped {
             pair,
@@ -376,26 +438,11 @@ pub fn receive(pair: Pair, f: &[u8], memory: &mut [u8]) -> Stepped
     let number = head.number;
     let next = pair.next;
     let d = number.distance(next);
-    if 32768 <= d {
-        return Stepped {
-            pair,
-            answer: Answer::Again(number),
-        };
-    }
     if 64 <= d {
-        return Stepped {
-            pair,
-            answer: Answer::Refused(Refusal {
-                number: refusal::FRAME_AHEAD,
-                place: 0,
-            }),
-        };
+        return answer_old(pair, f, number, d);
     }
     if word64::is_marked(pair.marks, d as u32) {
-        return Stepped {
-            pair,
-            answer: Answer::Again(number),
-        };
+        return answer_old(pair, f, number, d);
     }
     take_in(pair, f, memory, number, d)
 }

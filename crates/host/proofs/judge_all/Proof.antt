@@ -8,7 +8,7 @@ use borrow.Author.Needs.{needs}
 use borrow.Author.Tests.{not-true, not-false}
 use lib.ListN.{length}
 use Rattle.transactions.specs.declared.Verdict.{Verdict}
-use Rattle.reader.proofs.Reading.{is-whole, is-past}
+use Rattle.reader.proofs.Reading.{is-whole, is-past, Walked, walked-start, walked-last, walked-turn}
 use Rattle.host.proofs.Passes.{
   JudgingAll,
   judging-start,
@@ -39,6 +39,7 @@ Inv-loop shut f size lowest₀ closed₀ table₀ due₀ messages₀ bytes₀ co
     Steady f at messages bytes completed table due
     × JudgingAll f size (record { lowest = lowest₀ .0; closed = closed₀; table = table₀ }) at messages bytes completed
     (record { lowest = lowest .0; closed = closed; table = table }) due
+    × Walked f at messages bytes
 
 abbrev μ-loop : tie.MeasureT-loop
 μ-loop shut f size lowest₀ closed₀ table₀ due₀ messages₀ bytes₀ completed₀ at₀ lowest closed table due messages bytes completed at =
@@ -48,7 +49,7 @@ loop-holds : tie.Need-loop-holds Inv-loop μ-loop
 loop-holds c =
     let a = c .before .args in
     let l : length (a .places) ≡ 32 = c .before .good .1 .1 .0 .1 .0 .1 in
-    (steady-start (a .f .now) (a .places) (c .before .pre) l, λ ms e. judging-start (a .f .now) (a .size) _ ms e)
+    (steady-start (a .f .now) (a .places) (c .before .pre) l, λ ms e. judging-start (a .f .now) (a .size) _ ms e, walked-start (a .f .now))
 
 message-at-requires : tie.Need-message-at-requires Inv-loop μ-loop
 message-at-requires c κs = search needs
@@ -58,7 +59,7 @@ enum-told c = search needs
 
 returns : tie.Need-returns Inv-loop μ-loop
 returns c =
-    (λ ms e. absurd (omega (arith, still-inside (c .before .before .before .loop .inv .1 ms e), is-past _ _ (sym (c .before .before .message-at .ensures) ∙ c .enum-told .given .1))), omega (arith, c .before .before .before .loop .inv .0))
+    (λ ms e. absurd (omega (arith, still-inside (c .before .before .before .loop .inv .1 ms e), is-past _ _ (sym (c .before .before .message-at .ensures) ∙ c .enum-told .given .1))), (omega (arith, c .before .before .before .loop .inv .0), λ z. absurd (omega (arith, z))))
 
 enum-known-found : tie.Need-enum-known-found Inv-loop μ-loop
 enum-known-found c = search needs
@@ -79,7 +80,7 @@ returns-2 : tie.Need-returns-2 Inv-loop μ-loop
 returns-2 c =
     let w = is-whole (sym (c .before .before .before .before .before .before .before .before .message-at .ensures) ∙ c .before .before .before .before .before .before .found .given .1) in
     let v = c .before .judge .ensures ∙ verdict-is w _ _ in
-    (λ ms e. stopped-right (c .before .before .before .before .before .before .before .before .before .loop .inv .1 ms e) _ (c .if1 .taken) (ap (λ (v : Verdict). v .refusal) v) refl, omega (arith, c .before .before .before .before .before .before .before .before .before .loop .inv .0))
+    (λ ms e. stopped-right (c .before .before .before .before .before .before .before .before .before .loop .inv .1 ms e) _ (c .if1 .taken) (ap (λ (v : Verdict). v .refusal) v) refl, (omega (arith, c .before .before .before .before .before .before .before .before .before .loop .inv .0), λ z. absurd (c .if1 .taken z)))
 
 mul-table : tie.Need-mul-table Inv-loop μ-loop
 mul-table c = search needs
@@ -130,7 +131,7 @@ returns-3 c =
           (sym (w .more-is) ∙ not-true _ (c .if2 .taken)) refl (after-is w _ _ _ v) (add-one (k .messages))
           (ap (λ (n : ℕ). k .bytes + n) (sym (w .bytes-are))) (one-is (k .completed) _ _ _ (c .before .one-if .ensures .0) done)
           (noted-is (k .due) (k .messages) _ _ _ (c .before .before .noted .ensures) done),
-      omega (arith, k .inv .0, w),
+      (omega (arith, k .inv .0, w), λ z. walked-last (k .inv .2) (sym (c .before .before .before .before .before .before .before .before .before .before .before .before .before .message-at .ensures) ∙ c .before .before .before .before .before .before .before .before .before .before .before .found .given .1) (not-true _ (c .if2 .taken))),
     )
 
 loop-less : tie.Need-loop-less Inv-loop μ-loop
@@ -147,6 +148,7 @@ loop-again c =
           (sym (w .more-is) ∙ not-false _ (c .if2 .left)) _ _ _ _ _ _ (w .next-is) (add-one (k .messages))
           (ap (λ (n : ℕ). k .bytes + n) (sym (w .bytes-are))) (one-is (k .completed) _ _ _ (c .before .one-if .ensures .0) done)
           (after-is w _ _ _ v) (noted-is (k .due) (k .messages) _ _ _ (c .before .before .noted .ensures) done),
+      walked-turn (k .inv .2) (sym (c .before .before .before .before .before .before .before .before .before .before .before .before .before .message-at .ensures) ∙ c .before .before .before .before .before .before .before .before .before .before .before .found .given .1) (not-false _ (c .if2 .left)),
     )
 
 pub judge-all-spec : {M : Type 1} → statement M

@@ -2,7 +2,7 @@
 -- Assumes nothing.
 use mathlib.Core.Path.{sym, ap, _∙_}
 use Rattle.host.specs.Host.{Received, steppedOf}
-use Rattle.host.proofs.Passes.{taken, not-taken}
+use Rattle.host.proofs.Receiving.{new-refused, new-unchanged, new-taken}
 use borrow.Author.Needs.{needs}
 use Rattle.host.proofs.take_in.Statement.{statement}
 use Rattle.host.proofs.take_in.Tie as tie
@@ -10,16 +10,22 @@ use Rattle.host.proofs.take_in.Reads as reads
 use Rattle.host.proofs.take_in.Lts as lts
 use Rattle.host.proofs.accept.Reads as accept-reads
 use Rattle.host.proofs.judge_all.Reads as judge-all-reads
+use Rattle.host.proofs.refuse.Reads as refuse-reads
 use Rattle.host.proofs.write_all.Reads as write-all-reads
 
 judge-all-requires : tie.Need-judge-all-requires
 judge-all-requires c κs = search needs
 
+refuse-requires : tie.Need-refuse-requires
+refuse-requires c κs = search needs
+
 returns : tie.Need-returns
-returns c ms e q =
-    let a = c .before .before .before .before .before .before .args in
-    let n = not-taken (a .pair) (a .memory .now) (a .number .0) _ ms (c .before .judge-all .ensures .0 ms e) (c .if1 .taken) in
-    (sym (ap steppedOf n), sym (ap (λ (r : Received). r .memory) n))
+returns c w new clear =
+    let a = c .before .before .before .before .before .before .before .args in
+    let right = c .before .before .judge-all .ensures .0 in (
+      c .refuse .ensures ∙ new-refused (a .pair) (a .f .now) (a .memory .now) _ _ w _ new clear right (c .before .if1 .taken),
+      new-unchanged (a .pair) (a .f .now) (a .memory .now) _ _ w _ new clear right (c .before .if1 .taken),
+    )
 
 write-all-requires : tie.Need-write-all-requires
 write-all-requires c κs = search needs
@@ -31,13 +37,20 @@ same-length : tie.Need-same-length
 same-length c = search needs
 
 returns-2 : tie.Need-returns-2
-returns-2 c ms e q =
+returns-2 c w new clear =
     let a = c .before .before .before .before .before .before .before .before .before .before .before .before .args in
-    let n = taken (a .pair) (a .f .now) (a .memory .now) (a .number .0) (a .d) _ ms e q (c .before .before .before .before .before .before .before .judge-all .ensures .0 ms e)
-    (c .before .before .before .before .before .before .if1 .left) in
+    let j = c .before .before .before .before .before .before .before .judge-all .ensures in
+    let n = new-taken (a .pair) (a .f .now) (a .memory .now) _ _ w _ new clear (j .0) (c .before .before .before .before .before .before .if1 .left) (j .1 .1) in
     (rw (c .accept .ensures) (sym (ap steppedOf n)), c .before .before .before .write-all .ensures ∙ sym (ap (λ (r : Received). r .memory) n))
 
 pub take-in-spec : {M : Type 1} → statement M
 take-in-spec =
     tie.close
-    (tie.spec judge-all-requires returns write-all-requires accept-requires same-length returns-2)
+    (tie.spec
+    judge-all-requires
+    refuse-requires
+    returns
+    write-all-requires
+    accept-requires
+    same-length
+    returns-2)
