@@ -13,11 +13,11 @@ ghost use Rattle.transactions.specs.Transactions.{
 };
 
 // An open transaction: what its first message said of it, and how many were received. A place of the table that holds none is
-// all zeros.
+// all zeros. The wide fields come first: without padding the table is copied as one block.
 pub struct Open {
-    pub count: u16,
     pub target: u32,
     pub value: u32,
+    pub count: u16,
     pub received: u16,
 }
 
