@@ -461,9 +461,8 @@ fn it_ends_after_a_million_lines_though_the_pipe_stays_open() {
     assert!(output.ends_with("R 1\nT 0 0 0\n"));
 }
 
-/// Frames that carry more than 2^32 data bytes between them.
+/// Frames that carry more than 2^32 data bytes between them: 9 GB of digits go through the pipe.
 #[test]
-#[ignore = "moves 9 GB through a pipe"]
 fn sums_pass_32_bits() {
     let data = [0x5a; 4_096];
     let message = |transaction, length| Message {
