@@ -16,11 +16,13 @@ replay:
 	@rt check replay > target/replay.log 2>&1 || { cat target/replay.log; exit 1; }
 	@target/bin/replay < $(FRAMES)
 
-# Times the proved host against a plain Rust one on this machine: docs/PERFORMANCE.md.
+# Times the proved host and replay against plain Rust ones on this machine: docs/PERFORMANCE.md.
 bench:
+	rt check replay
 	rt staticlib host_run
 	cd rust && cargo build --offline --profile bench-release -p bench --features proved
 	target/rust/bench-release/bench-host
+	target/rust/bench-release/bench-replay target/bin/replay
 
 clean:
 	rm -rf target

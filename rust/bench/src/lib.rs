@@ -1,7 +1,8 @@
-//! What the benchmark of the hosts is made of: a plain host written for speed and the
-//! frames that both hosts are timed on.
+//! What the benchmarks are made of: a plain host and a plain replay written for speed,
+//! and the frames that they and the proved ones are timed on.
 
 #![forbid(unsafe_code)]
 
 pub mod plain;
+pub mod replay;
 pub mod shapes;

@@ -6,7 +6,7 @@ use reference::wire::{FRAME_HEADER, MESSAGE_HEADER, Message, next_header, write_
 
 /// Bytes of every frame.
 pub const FRAME: usize = 1_500;
-/// Bytes of the memory that is written.
+/// Bytes of the memory that a host alone is timed with.
 pub const MEMORY: usize = 1 << 16;
 
 /// How the frames of a benchmark are made up.
@@ -45,13 +45,13 @@ pub const SHAPES: [Shape; 3] = [
 ];
 
 impl Shape {
-    /// That many frames, one after another.
-    pub fn frames(&self, frames: usize) -> Vec<u8> {
+    /// That many frames, one after another, for a memory of that many bytes.
+    pub fn frames(&self, frames: usize, memory: usize) -> Vec<u8> {
         let mut all = Vec::with_capacity(frames * FRAME);
         let data: Vec<u8> = (0..FRAME).map(|byte| byte as u8).collect();
         for frame in 0..frames {
             let messages: Vec<Message> = (0..self.messages)
-                .map(|index| self.message(frame, index, &data))
+                .map(|index| self.message(frame, index, &data, memory))
                 .collect();
             let bytes = write_frame(1, 2, frame as u16, &messages);
             assert_eq!(bytes.len(), FRAME);
@@ -60,17 +60,23 @@ impl Shape {
         all
     }
 
-    fn message<'a>(&self, frame: usize, index: usize, data: &'a [u8]) -> Message<'a> {
+    fn message<'a>(
+        &self,
+        frame: usize,
+        index: usize,
+        data: &'a [u8],
+        memory: usize,
+    ) -> Message<'a> {
         let length = self.length(index);
         let transaction = (frame * self.messages + index) / self.count;
         // Spread over memory without a pattern that a cache could make too easy.
         let place = (frame * self.messages + index).wrapping_mul(2_654_435_761);
         Message {
             transaction: transaction as u32,
-            completion_address: (transaction * 4 % (MEMORY / 4)) as u32,
+            completion_address: (transaction * 4 % (memory / 4)) as u32,
             completion_value: transaction as u32,
             count: self.count as u16,
-            data_address: (place % (MEMORY - length)) as u32,
+            data_address: (place % (memory - length)) as u32,
             data: &data[..length],
         }
     }

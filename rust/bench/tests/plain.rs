@@ -107,7 +107,7 @@ fn opening_agrees() {
 #[test]
 fn benchmark_frames_are_accepted() {
     for shape in SHAPES {
-        let frames = shape.frames(70_000);
+        let frames = shape.frames(70_000, MEMORY);
         let mut memory = vec![0; MEMORY];
         let total = plain::run(&frames, FRAME, &mut memory);
         assert_eq!(total, 70_000 * shape.data_bytes() as u64, "{}", shape.name);

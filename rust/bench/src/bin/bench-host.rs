@@ -75,7 +75,7 @@ fn main() {
 }
 
 fn time(shape: Shape, frames: usize) {
-    let all = shape.frames(frames);
+    let all = shape.frames(frames, MEMORY);
     let expected = (frames * shape.data_bytes()) as u64;
     let hosts = hosts();
     let mut memories = vec![vec![0; MEMORY]; hosts.len()];
