@@ -188,7 +188,7 @@ fn one_if(done: bool) -> u32
     0
 }
 
-// Judges the messages of a frame that can be read, each against what those before it leave, for a memory of size bytes.
+// Judges a frame's messages, each against what those before it leave, for a memory of size bytes; 5 where one passes the end.
 fn judge_all(low: TransNo, shut: u32, places: [Open; 32], f: &[u8], size: usize) -> Judged
     requires { ⌜ length (now f) ≤ 9000 ⌝ }
     ensures { λ r. ⌜ JudgesFrame (now (f .entry)) (record { lowest = low .0; closed = shut; table = places }) size r ⌝ }
