@@ -5,11 +5,10 @@ use mathlib.Core.List.{List, map}
 use Rattle.seq.specs.Ring.{distance, advance}
 use Rattle.marks.specs.Marks.{mark, withMark, leading, leadingOnes}
 use Rattle.octets.specs.Octets.{little, value, field, inside, written}
-use Rattle.wire.specs.Format.{headOf, nextHeader}
+use Rattle.wire.specs.Format.{headOf, needed, nextHeader}
 use Rattle.wire.specs.Reading.{addressed, follows, messageAt, messagesFrom, readFrame}
 use Rattle.wire.specs.Writing.{frameHead, messageHead, laid, frameOf}
 use Rattle.transactions.specs.Transactions.{
-  needed,
   agrees,
   termsRefusal,
   addressRefusal,

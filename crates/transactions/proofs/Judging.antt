@@ -10,10 +10,11 @@ use lib.Dec.{eqb, leb}
 use Rattle.seq.specs.Ring.{distance, transSpace}
 use Rattle.marks.specs.Marks.{mark}
 use Rattle.wire.specs.declared.MessageHeader.{MessageHeader}
+use Rattle.wire.specs.Format.{needed}
+use Rattle.wire.proofs.Format.{needed-count}
 use Rattle.transactions.specs.declared.Open.{Open}
 use Rattle.transactions.specs.declared.Verdict.{Verdict}
 use Rattle.transactions.specs.Transactions.{
-  needed,
   termsRefusal,
   addressRefusal,
   firstOf,
@@ -24,16 +25,6 @@ use Rattle.transactions.specs.Transactions.{
   decided,
   verdictOf,
 }
-
--- a transaction takes as many messages as its count, and one for count 0
-pub needed-pos : (count : ℕ) → 1 ≤ needed count
-unfolding needed
-needed-pos zero = omega arith
-needed-pos (suc n) = rw (ne-eqb (suc n) 0 (omega arith)) (omega arith)
-
-pub needed-count : (count : ℕ) → 1 ≤ count → needed count ≡ count
-unfolding needed
-needed-count count h = rw (ne-eqb count 0 (omega arith))
 
 pub fills-yes : (o : Open) (h : MessageHeader) → h .count ≤ suc (o .received) → fills o h ≡ true
 unfolding fills needed

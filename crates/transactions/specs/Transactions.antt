@@ -8,17 +8,13 @@ use lib.ListN.{length, getD, set}
 use Rattle.seq.specs.Ring.{distance, advance, transSpace}
 use Rattle.marks.specs.Marks.{mark, withMark, leadingOnes}
 use Rattle.wire.specs.declared.MessageHeader.{MessageHeader}
-use Rattle.wire.specs.Format.{Message, headOf}
+use Rattle.wire.specs.Format.{Message, headOf, needed}
 use Rattle.transactions.specs.declared.Open.{Open}
 use Rattle.transactions.specs.declared.Verdict.{Verdict}
 
 -- A place of the table with no open transaction in it.
 abbrev pub free : Open
 free = record { count = 0; target = 0; value = 0; received = 0 }
-
--- The messages that a transaction takes: one bare one for count 0.
-unfoldable pub needed : ℕ → ℕ
-needed count = cond (eqb count 0) 1 count
 
 -- Whether a message's header agrees with what the first message of its transaction said, if there was one.
 unfoldable pub agrees : Open → MessageHeader → Bool

@@ -1,14 +1,24 @@
--- Laws of the format: the next header's offset, and the lengths of what is laid out.
+-- Laws of the format: how many messages a transaction takes, the next header's offset, and the lengths of what is laid out.
 -- Assumes nothing.
 use mathlib.Core.Path.{_≡_, refl, sym, _∙_, ap}
 use mathlib.Core.List.{List, [], _∷_, _++_, append-assoc}
-use Prim.Native.Nat.{ℕ, suc, _+_, _-_, _*_, _/_, _^_, _≤_, _<_}
+use Prim.Native.Nat.{ℕ, zero, suc, _+_, _-_, _*_, _/_, _^_, _≤_, _<_}
 use native.Mathlib.Omega.{arith}
-use borrow.Author.Tests.{lt-ltb, le-ltb}
+use borrow.Author.Tests.{lt-ltb, le-ltb, ne-eqb}
 use lib.ListN.{length, replicate, length-append, length-replicate}
 use Rattle.octets.specs.Octets.{little}
-use Rattle.wire.specs.Format.{Message, nextHeader, headerAfter}
+use Rattle.wire.specs.Format.{Message, needed, nextHeader, headerAfter}
 use Rattle.wire.specs.Writing.{frameHead, messageHead, endOf, gapAt, laid, frameOf}
+
+-- a transaction takes as many messages as its count, and one for count 0
+pub needed-pos : (count : ℕ) → 1 ≤ needed count
+unfolding needed
+needed-pos zero = omega arith
+needed-pos (suc n) = rw (ne-eqb (suc n) 0 (omega arith)) (omega arith)
+
+pub needed-count : (count : ℕ) → 1 ≤ count → needed count ≡ count
+unfolding needed
+needed-count count h = rw (ne-eqb count 0 (omega arith))
 
 -- the next header is of the form 10 + 8k, not before the end, and the first such
 pub next-form : (end : ℕ) → nextHeader end ≡ 10 + 8 * ((end - 10 + 7) / 8)

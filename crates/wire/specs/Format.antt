@@ -3,7 +3,7 @@
 use Prim.Native.Nat.{ℕ, _+_, _-_, _*_, _/_, _^_}
 use mathlib.Core.Bool.{cond}
 use mathlib.Core.List.{List}
-use lib.Dec.{ltb}
+use lib.Dec.{eqb, ltb}
 use Rattle.wire.specs.declared.MessageHeader.{MessageHeader}
 
 -- One message: its transaction's number, the completion's address (`target`) and value, the count of data messages, and its
@@ -35,6 +35,10 @@ headOf m = record {
   count = m .count;
   at = m .at;
 }
+
+-- The messages that a transaction takes: as many as its count, and one bare one for count 0.
+unfoldable pub needed : ℕ → ℕ
+needed count = cond (eqb count 0) 1 count
 
 -- Message headers stand at offsets of the form 10 + 8k: the first of these that is not before `end`.
 unfoldable pub nextHeader : ℕ → ℕ
