@@ -4,6 +4,7 @@
 use Prim.Native.Nat.{ℕ, zero, suc, _+_, _-_, _*_, _^_, _/_, _%_, _≤_, _<_, zero-le}
 use native.Mathlib.Nat.{not-suc-le-zero, le-refl, lt-of-lt-of-le, mod-eq-of-lt, div-eq-of-lt, div-self, div-one}
 use native.Mathlib.Nat.{div-div-eq-div-mul, mul-div-cancel, one-mul, pow-suc, pow-succ'}
+use native.Mathlib.Numerals.{add-one}
 use native.Mathlib.Decide.{decLe, decLt}
 use native.Mathlib.Omega.{arith}
 use mathlib.Core.Path.{_≡_, refl, sym, ap, _∙_}
@@ -269,6 +270,54 @@ ones-trailing (suc k) m h =
     (λ z. let last : (2 ^ suc k - 1 - m) % 2 ≡ 1 = omega arith in rw (last, ne-eqb (m % 2) 1 (omega arith)))
     (λ o. let last : (2 ^ suc k - 1 - m) % 2 ≡ 0 = omega arith in rw (last, eq-eqb (m % 2) 1 o) (ap suc ih))
     (bit-two m))
+
+-- ---- building a word mark by mark
+
+-- a word of the first n answers, with one answer more
+marksOf-more : (n : ℕ) (p : ℕ → Bool) → marksOf (suc n) p ≡ marksOf n p + cond (p n) (2 ^ n) 0
+unfolding marksOf
+marksOf-more zero p = go (p 0)
+  where
+    go : (b : Bool) → cond b 1 0 + 2 * 0 ≡ 0 + cond b (2 ^ 0) 0
+    go true = refl
+    go false = refl
+marksOf-more (suc n) p = rw (marksOf-more n (λ i. p (suc i))) (go (p (suc n)) (marksOf n (λ i. p (suc i))) (cond (p 0) 1 0))
+  where
+    go : (b : Bool) (x l : ℕ) → l + 2 * (x + cond b (2 ^ n) 0) ≡ l + 2 * x + cond b (2 ^ suc n) 0
+    go true x l = omega (arith, pow-succ' 2 n)
+    go false x l = omega arith
+
+pub marksOf-yes : (width n : ℕ) (p : ℕ → Bool) → n < width → p n ≡ true
+    → withMark width (marksOf n p) n ≡ marksOf (n + 1) p
+marksOf-yes width n p h e =
+    rw (add-one n) (withMark-clear width (marksOf n p) n h (mark-marksOf-beyond n p n (le-refl n))
+    ∙ sym (marksOf-more n p ∙ rw e))
+
+pub marksOf-no : (n : ℕ) (p : ℕ → Bool) → p n ≡ false → marksOf n p ≡ marksOf (n + 1) p
+marksOf-no n p e = rw (add-one n) (sym (marksOf-more n p ∙ rw e (omega arith)))
+
+-- ---- runs of marks in a word
+
+-- a run of marks is no longer than its word
+pub ones-le : (n m : ℕ) → leadingOnes n m ≤ n
+unfolding leadingOnes
+ones-le n m = leading-le (mark m) n
+
+-- the run among the first `most` marks, by the run of the whole word
+module _ (width m most : ℕ) (fits : m < 2 ^ width) where
+  pub ones-cut : most < leadingOnes width m → leadingOnes most m ≡ most
+  unfolding leadingOnes
+  ones-cut h = leading-is (mark m) most most (le-refl most)
+      (λ i l. leading-holds (mark m) width i (omega arith)) (λ l. absurd (not-suc-le-zero {n = 0} (omega arith)))
+
+  pub ones-whole : leadingOnes width m ≤ most → leadingOnes most m ≡ leadingOnes width m
+  unfolding leadingOnes
+  ones-whole h = leading-is (mark m) most (leading (mark m) width) h (leading-holds (mark m) width)
+      (λ l. stop (decLt (leading (mark m) width) width))
+    where
+      stop : Dec (leading (mark m) width < width) → mark m (leading (mark m) width) ≡ false
+      stop (yes l) = leading-stops (mark m) width l
+      stop (no l) = mark-past width m (leading (mark m) width) fits (omega arith)
 
 -- ---- a window over a test
 
