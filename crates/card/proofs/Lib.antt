@@ -1,0 +1,4 @@
+pub mod Limits
+pub mod Slots
+pub mod Writing
+pub mod Reachable

@@ -1,0 +1,27 @@
+-- `header_place`: the next header behind what is built.
+-- Assumes nothing.
+use native.Mathlib.Omega.{arith}
+use mathlib.Core.Path.{_≡_, _∙_}
+use Rattle.wire.proofs.Format.{header-after, next-gap}
+use Prim.Native.Nat.{_^_, _<_}
+use borrow.Author.Needs.{needs}
+use Rattle.card.proofs.header_place.Statement.{statement}
+use Rattle.card.proofs.header_place.Tie as tie
+use Rattle.card.proofs.header_place.Reads as reads
+use Rattle.card.proofs.header_place.Lts as lts
+use Rattle.wire.proofs.next_header.Reads as next-header-reads
+
+cast-next-header : tie.Need-cast-next-header
+cast-next-header c = search needs
+
+next-header-requires : tie.Need-next-header-requires
+next-header-requires c κs = search needs
+
+returns : tie.Need-returns
+returns c =
+    let u = c .before .before .args .card .used in
+    let e = c .next-header .ensures ∙ header-after u (omega arith) in
+    (e, omega (arith, e, next-gap u))
+
+pub header-place-spec : {M : Type 1} → statement M
+header-place-spec = tie.close (tie.spec cast-next-header next-header-requires returns)

@@ -1,0 +1,57 @@
+-- `Sendings::takes`: opened, and with messages to come.
+-- Assumes nothing.
+use borrow.Author.Tests.{lt-ltb, le-ltb}
+use Rattle.sendings.specs.Sendings.{takes}
+use borrow.Author.Needs.{needs}
+use Rattle.sendings.proofs.Sendings.takes.Statement.{statement}
+use Rattle.sendings.proofs.Sendings.takes.Tie as tie
+use Rattle.sendings.proofs.Sendings.takes.Reads as reads
+use Rattle.sendings.proofs.Sendings.takes.Lts as lts
+use Rattle.sendings.proofs.messages_of.Reads as messages-of-reads
+use Rattle.seq.proofs.TransNo.distance.Reads as distance-reads
+
+distance-requires : tie.Need-distance-requires
+distance-requires c κs = search needs
+
+distance-requires-2 : tie.Need-distance-requires-2
+distance-requires-2 c κs = search needs
+
+returns : tie.Need-returns
+unfolding takes
+returns c = rw (← c .before .before .distance .ensures, ← c .before .distance2 .ensures, le-ltb _ _ (c .if1 .taken))
+
+cast-e : tie.Need-cast-e
+cast-e c = search needs
+
+mul-e : tie.Need-mul-e
+mul-e c = search needs
+
+element-copy-out-e : tie.Need-element-copy-out-e
+element-copy-out-e c = search needs
+
+messages-of-requires : tie.Need-messages-of-requires
+messages-of-requires c κs = search needs
+
+returns-2 : tie.Need-returns-2
+unfolding takes
+returns-2 c =
+    let s = c .before .before .before .before in
+    rw (
+      ← s .before .before .distance .ensures,
+      ← s .before .distance2 .ensures,
+      lt-ltb _ _ (s .if1 .left),
+      c .before .messages-of .ensures,
+    )
+
+pub takes-spec : {M : Type 1} → statement M
+takes-spec =
+    tie.close
+    (tie.spec
+    distance-requires
+    distance-requires-2
+    returns
+    cast-e
+    mul-e
+    element-copy-out-e
+    messages-of-requires
+    returns-2)

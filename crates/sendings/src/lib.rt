@@ -1,0 +1,219 @@
+// The card's transactions: opening one, adding a message to one, and which are finished. Total over any state, also those that
+// no run reaches.
+use marks::word32;
+use seq::FrameNo;
+use seq::TransNo;
+ghost use mathlib.Core.Path.{_≡_};
+ghost use mathlib.Core.Bool.{Bool, true, false};
+ghost use Rattle.wire.specs.Format.{needed};
+ghost use Rattle.marks.specs.Marks.{marksOf};
+ghost use Rattle.sendings.specs.Sendings.{
+  noSendings,
+  sendingAt,
+  openingRefusal,
+  opening,
+  takes,
+  adding,
+  sent,
+  finishedBy,
+  passing,
+  finishing,
+};
+
+// A transaction as the card sends it: its terms, how many of its messages are added, and the number of the frame that the latest
+// of them went into.
+pub struct Sending {
+    pub target: u32,
+    pub value: u32,
+    pub count: u16,
+    pub added: u16,
+    pub latest: FrameNo,
+}
+
+// next is the number that the next opening gives, lowest the lowest unfinished transaction. Bit i of finished stands for the
+// transaction lowest + i.
+pub struct Sendings {
+    pub next: TransNo,
+    pub lowest: TransNo,
+    pub finished: u32,
+    pub table: [Sending; 32],
+}
+
+// No transaction opened.
+pub fn no_sendings() -> Sendings
+    ensures { λ r. ⌜ r ≡ noSendings ⌝ }
+{
+    Sendings {
+        next: TransNo(0),
+        lowest: TransNo(0),
+        finished: 0,
+        table: [Sending {
+            target: 0,
+            value: 0,
+            count: 0,
+            added: 0,
+            latest: FrameNo(0),
+        }; 32],
+    }
+}
+
+// The messages that a transaction takes: one bare one for count 0.
+fn messages_of(count: u16) -> u16
+    ensures { λ r. ⌜ r ≡ needed count ⌝ }
+{
+    if count == 0 {
+        return 1;
+    }
+    count
+}
+
+impl Sending {
+    // Whether all messages are added and lie in frames before base, where next is the frame being built.
+    fn is_sent(self, base: FrameNo, next: FrameNo) -> bool
+        ensures { λ r. ⌜ r ≡ sent self (base .0) (next .0) ⌝ }
+    {
+        if self.added != messages_of(self.count) {
+            return false;
+        }
+        let latest = self.latest;
+        next.distance(base) < latest.distance(base)
+    }
+}
+
+impl Sendings {
+    // Refusal 20 of opening a transaction, 0 for none.
+    pub fn opening_refusal(self) -> u8
+        ensures { λ r. ⌜ r ≡ openingRefusal self ⌝ }
+    {
+        let next = self.next;
+        let lowest = self.lowest;
+        if next.distance(lowest) < 32 {
+            return 0;
+        }
+        refusal::TRANS_WINDOW_FULL
+    }
+
+    // The transactions with one more opened, under the next number.
+    pub fn open(self, count: u16, target: u32, value: u32) -> Sendings
+        ensures { λ r. ⌜ r ≡ opening self count target value ⌝ }
+    {
+        let next = self.next;
+        let lowest = self.lowest;
+        let mut table = self.table;
+        table[(next.0 % 32) as usize] = Sending {
+            target,
+            value,
+            count,
+            added: 0,
+            latest: FrameNo(0),
+        };
+        Sendings {
+            next: next.advance(1),
+            lowest,
+            finished: self.finished,
+            table,
+        }
+    }
+
+    // What is known of transaction t, if it is in the window.
+    pub fn sending(self, t: TransNo) -> Sending
+        ensures { λ r. ⌜ r ≡ sendingAt self (t .0) ⌝ }
+    {
+        self.table[(t.0 % 32) as usize]
+    }
+
+    // Whether a message of transaction t may be added.
+    pub fn takes(self, t: TransNo) -> bool
+        ensures { λ r. ⌜ r ≡ takes self (t .0) ⌝ }
+    {
+        let next = self.next;
+        let lowest = self.lowest;
+        if next.distance(lowest) <= t.distance(lowest) {
+            return false;
+        }
+        let e = self.table[(t.0 % 32) as usize];
+        e.added < messages_of(e.count)
+    }
+
+    // The transactions with one message more of t, in a frame; as they were where t takes none.
+    pub fn add(self, t: TransNo, frame: FrameNo) -> Sendings
+        ensures { λ r. ⌜ r ≡ adding self (t .0) (frame .0) ⌝ }
+    {
+        if !self.takes(t) {
+            return self;
+        }
+        let next = self.next;
+        let lowest = self.lowest;
+        let mut table = self.table;
+        let s = (t.0 % 32) as usize;
+        let e = table[s];
+        table[s] = Sending {
+            target: e.target,
+            value: e.value,
+            count: e.count,
+            added: e.added + 1,
+            latest: frame,
+        };
+        Sendings {
+            next,
+            lowest,
+            finished: self.finished,
+            table,
+        }
+    }
+
+    // Whether the transaction lowest + i is finished once the frames before base are released.
+    fn is_finished(self, base: FrameNo, next: FrameNo, i: u32) -> bool
+        ensures { λ r. ⌜ r ≡ finishedBy self (base .0) (next .0) i ⌝ }
+    {
+        if word32::is_marked(self.finished, i) {
+            return true;
+        }
+        let lowest = self.lowest;
+        let end = self.next;
+        if end.distance(lowest) <= i {
+            return false;
+        }
+        self.table[((lowest.0 % 32 + i % 32) % 32) as usize]
+            .is_sent(base, next)
+    }
+
+    // Marks of the transactions finished then.
+    fn all_finished(self, base: FrameNo, next: FrameNo) -> u32
+        ensures { λ r. ⌜ r ≡ marksOf 32 (finishedBy self (base .0) (next .0)) ⌝ }
+    {
+        let mut finished: u32 = 0;
+        let mut i: u32 = 0;
+        while i < 32 {
+            if self.is_finished(base, next, i) {
+                finished = word32::with_mark(finished, i);
+            }
+            i += 1;
+        }
+        finished
+    }
+
+    // The window past consecutive finished transactions.
+    fn pass(self, finished: u32) -> Sendings
+        ensures { λ r. ⌜ r ≡ passing self finished ⌝ }
+    {
+        let run = word32::leading_ones(finished);
+        let next = self.next;
+        let lowest = self.lowest;
+        let table = self.table;
+        Sendings {
+            next,
+            lowest: lowest.advance(run),
+            finished: word32::shifted(finished, run),
+            table,
+        }
+    }
+
+    // The transactions once the frames before base are released; next is the frame being built.
+    pub fn finish(self, base: FrameNo, next: FrameNo) -> Sendings
+        ensures { λ r. ⌜ r ≡ finishing self (base .0) (next .0) ⌝ }
+    {
+        let finished = self.all_finished(base, next);
+        self.pass(finished)
+    }
+}
