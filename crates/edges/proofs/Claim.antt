@@ -7,7 +7,7 @@ use Rattle.marks.specs.Marks.{mark, withMark, leading, leadingOnes}
 use Rattle.octets.specs.Octets.{little, value, field, inside, written}
 use Rattle.wire.specs.Format.{headOf, needed, nextHeader}
 use Rattle.wire.specs.Reading.{addressed, follows, messageAt, messagesFrom, readFrame}
-use Rattle.wire.specs.Writing.{frameHead, messageHead, laid, frameOf}
+use Rattle.wire.specs.Writing.{frameHead, messageHead, laid, frameOf, roomFor, firstMessage, nextMessage}
 use Rattle.transactions.specs.Transactions.{
   agrees,
   termsRefusal,
@@ -21,10 +21,25 @@ use Rattle.transactions.specs.Transactions.{
   after,
 }
 use Rattle.host.specs.Host.{effect, takeIn, takeAll, accepting, numbered, receiveOf}
-use Rattle.edges.specs.Edges.{Case, Outcome, outcome, cases}
+use Rattle.send_window.specs.Window.{emptyWindow}
+use Rattle.sendings.specs.Sendings.{noSendings, openingRefusal, opening, takes, adding}
+use Rattle.card.specs.Card.{
+  freshCard,
+  fits,
+  openTransaction,
+  addRefusal,
+  messageOf,
+  builtSlot,
+  builtSlots,
+  withMessage,
+  addMessage,
+}
+use Rattle.edges.specs.Edges.{Case, Outcome, added, outcome, cases}
 
 pub edges-hold : map (λ (c : Case). outcome (c .edge)) cases ≡ map (λ (c : Case). c .answer) cases
 unfolding distance advance mark withMark leading leadingOnes little value field inside written headOf nextHeader addressed
     follows messageAt messagesFrom readFrame frameHead messageHead laid frameOf needed agrees termsRefusal addressRefusal fills
     refusing closing holding verdictOf verdict after effect takeIn takeAll accepting numbered receiveOf
+    emptyWindow noSendings openingRefusal opening takes adding freshCard fits openTransaction addRefusal roomFor firstMessage
+    nextMessage messageOf builtSlot builtSlots withMessage addMessage added
 edges-hold = refl

@@ -1,7 +1,8 @@
 -- Both sides of each edge of the rules: what an end holds, what comes to it, and what it answers. One list.
-use Prim.Native.Nat.{ℕ, _+_}
-use mathlib.Core.Bool.{true}
+use Prim.Native.Nat.{ℕ, _+_, _*_}
+use mathlib.Core.Bool.{true, cond}
 use mathlib.Core.List.{List, [], _∷_}
+use lib.Dec.{eqb}
 use lib.ListN.{take, replicate}
 use Rattle.transactions.specs.Transactions.{free}
 use Rattle.wire.specs.Format.{Message}
@@ -11,6 +12,8 @@ use Rattle.host.specs.declared.Pair.{Pair}
 use Rattle.host.specs.declared.Answer.{Answer}
 use Rattle.host.specs.declared.Answer.the-variants.{Accepted, Again, NoMessages, Refused}
 use Rattle.host.specs.Host.{receiveOf}
+use Rattle.card.specs.declared.Stepped.{Stepped}
+use Rattle.card.specs.Card.{Added, freshCard, openTransaction, addMessage}
 
 -- ---- what is asked and answered
 
@@ -19,14 +22,17 @@ pub data Edge : Type 0 where
   receives : (next lowest memory : ℕ) → List ℕ → Edge
   -- the reading of a layout
   reads : List ℕ → Edge
+  -- a fresh card of this frame limit, a transaction of two data messages, and the data added to it, the latest first
+  adds : (limit : ℕ) → List (List ℕ) → Edge
 
--- An accepted frame and one that comes again; a refusal by its number; a layout.
+-- An accepted frame and one that comes again; a refusal by its number; a layout; where an added message's header is.
 pub data Outcome : Type 0 where
   taken : Outcome
   again : Outcome
   nothing : Outcome
   refused : ℕ → Outcome
   layout : Read → Outcome
+  header : ℕ → Outcome
 
 abbrev pub pairAt : ℕ → ℕ → Pair
 pairAt next lowest = record {
@@ -45,9 +51,22 @@ told (Again n) = again
 told NoMessages = nothing
 told (Refused r) = refused (r .number)
 
+unfoldable pub added : ℕ → List (List ℕ) → Added
+added limit [] = record {
+  step = record { card = openTransaction (freshCard 1 2 limit) 2 0 0 .card; refusal = 0 };
+  slots = replicate (64 * limit) 0;
+}
+added limit (bytes ∷ earlier) =
+    let before = added limit earlier in
+    addMessage (before .step .card) (before .slots) 0 0 bytes
+
+abbrev pub placed : Stepped → Outcome
+placed s = cond (eqb (s .refusal) 0) (header (s .card .last)) (refused (s .refusal))
+
 abbrev pub outcome : Edge → Outcome
 outcome (receives next lowest memory f) = told (receiveOf (pairAt next lowest) f (replicate memory 0) .answer)
 outcome (reads f) = layout (readFrame true f)
+outcome (adds limit datas) = placed (added limit datas .step)
 
 -- ---- the frames
 
@@ -110,4 +129,10 @@ cases =
     -- E7: the 38 bytes read as one message, the first 37 of them as cut
     ∷ is (reads wholeCase) (layout (good (wholeMessage ∷ [])))
     ∷ is (reads (take 37 wholeCase)) (layout (bad 5))
+    -- E8: in 34 bytes a message without data fits, and one with a byte does not
+    ∷ is (adds 34 ([] ∷ [])) (header 10)
+    ∷ is (adds 34 ((7 ∷ []) ∷ [])) (refused 22)
+    -- E9: behind a message of one byte the next header is at 42, and 66 bytes have room for it where 65 have not
+    ∷ is (adds 66 ([] ∷ (7 ∷ []) ∷ [])) (header 42)
+    ∷ is (adds 65 ([] ∷ (7 ∷ []) ∷ [])) (refused 22)
     ∷ []
