@@ -14,9 +14,8 @@ use borrow.Author.Tests.{le-leb, lt-leb, eq-eqb, ne-eqb}
 use lib.Dec.{eqb, leb}
 use lib.ListN.{length, getD, set, replicate, length-set}
 use lib.Seq.{getD-set-same, getD-set-other, set-getD}
-use Rattle.seq.specs.Ring.{distance, frameSpace}
-use Rattle.marks.specs.Marks.{mark, withMark, leadingOnes}
-use Rattle.marks.proofs.Marks.{leading-le, mark-same, mark-other, mark-of-zero}
+use Rattle.marks.specs.Marks.{mark, withMark, leadingOnes, marksOf}
+use Rattle.marks.proofs.Marks.{leading-le, mark-same, mark-other, mark-of-zero, mark-marksOf}
 use Rattle.octets.specs.Octets.{little, field, written}
 use Rattle.octets.proofs.Octets.{length-written}
 use Rattle.wire.specs.declared.MessageHeader.{MessageHeader}
@@ -259,6 +258,45 @@ course-goes : (size place : ℕ) (t : Transactions) (m : Message) (ms : List Mes
 unfolding course
 course-goes size place t m ms ok = rw (eq-eqb (verdict t size m .refusal) 0 ok)
 
+-- no message from the i-th on is marked
+abbrev pub Clear : List ℕ → ℕ → Type 0
+Clear due i = (j : ℕ) → i ≤ j → dueAt due j ≡ false
+
+-- due′ has the i-th message's mark, and the marks of those before it that due has
+pub record Noting (due : List ℕ) (i : ℕ) (due′ : List ℕ) (done : Bool) : Type 0 where
+  pub noted-now : dueAt due′ i ≡ done
+  pub kept : (j : ℕ) → j < i → dueAt due′ j ≡ dueAt due j
+
+pub noting : (due : List ℕ) (i word : ℕ) (done done′ : Bool) → i / 64 < length due → Clear due i
+    → word ≡ notedWord (getD due (i / 64) 0) (i % 64) done → done ≡ done′ → Noting due i (set due (i / 64) word) done′
+unfolding notedOf
+noting due i word done done′ fits clear e d =
+    rw (e, d) (record {
+      noted-now = noted-same due i fits done′ (clear i (omega arith));
+      kept = λ j l. noted-other due i fits j done′ (λ q. omega (arith, q));
+    })
+
+pub clear-on : (due : List ℕ) (i word : ℕ) (done : Bool) → i / 64 < length due → Clear due i
+    → word ≡ notedWord (getD due (i / 64) 0) (i % 64) done → Clear (set due (i / 64) word) (i + 1)
+unfolding notedOf
+clear-on due i word done fits clear e j l =
+    rw e (noted-other due i fits j done (λ q. omega (arith, q)) ∙ clear j (omega arith))
+
+-- all messages marked from the start
+pub all-noted : (j : ℕ) → j < 384 → dueAt (replicate 6 18446744073709551615) j ≡ true
+unfolding dueAt marksOf
+all-noted j l =
+    ap (λ (w : ℕ). mark w (j % 64)) (word-at 6 (j / 64) (omega arith)) ∙ mark-marksOf 64 (λ (i : ℕ). true) (j % 64) (omega arith)
+  where
+    word-at : (n k : ℕ) → k < n → _≡_ {A = ℕ} (getD (replicate n 18446744073709551615) k 0) (marksOf 64 (λ (i : ℕ). true))
+    word-at zero k h = absurd (omega arith)
+    word-at (suc n) zero h = refl
+    word-at (suc n) (suc k) h = word-at n k (omega arith)
+
+pub noting-all : (i : ℕ) (done : Bool) → i < 384 → done ≡ true
+    → Noting (replicate 6 18446744073709551615) i (replicate 6 18446744073709551615) done
+noting-all i done l d = record { noted-now = all-noted i l ∙ sym d; kept = λ j k. refl }
+
 -- where the judging stands: i messages are judged, with b data bytes and c completions; `left` are the others, at an offset
 pub record Judging (f : List ℕ) (size : ℕ) (t₀ : Transactions) (ms₀ : List Message) (at i b c : ℕ) (t : Transactions)
     (due : List ℕ) : Type 0 where
@@ -268,14 +306,13 @@ pub record Judging (f : List ℕ) (size : ℕ) (t₀ : Transactions) (ms₀ : Li
   pub is : course size 0 t₀ ms₀ ≡ course size i t left
   pub ahead : (j : ℕ) → doneAt size t₀ ms₀ (i + j) ≡ doneAt size t left j
   pub behind : (j : ℕ) → j < i → dueAt due j ≡ doneAt size t₀ ms₀ j
-  pub clear : (j : ℕ) → i ≤ j → dueAt due j ≡ false
   pub counted : length ms₀ ≡ i + length left
   pub bytes-left : total ms₀ ≡ b + total left
   pub dones-left : dones size t₀ ms₀ ≡ c + dones size t left
 
 pub judging-start : (f : List ℕ) (size : ℕ) (t : Transactions) (ms : List Message) → messagesFrom (length f) f 10 ≡ some ms
-    → Judging f size t ms 10 0 0 0 t (replicate 6 0)
-judging-start f size t ms e =
+    → (due : List ℕ) → Judging f size t ms 10 0 0 0 t due
+judging-start f size t ms e due =
     record {
       left = ms;
       turns = length f;
@@ -283,7 +320,6 @@ judging-start f size t ms e =
       is = refl;
       ahead = λ j. ap (doneAt size t ms) (zero-add j);
       behind = λ j l. absurd (omega arith);
-      clear = λ j l. none-noted j;
       counted = omega arith;
       bytes-left = omega arith;
       dones-left = omega arith;
@@ -312,7 +348,8 @@ module _ {f : List ℕ} {size : ℕ} {t₀ : Transactions} {ms₀ : List Message
       g .is ∙ ap (course size i t) (first-left .1 .is) ∙ course-stops size i t (messageAt f at) (first-left .1 .rest) ne
 
   -- it is not refused
-  module _ (fits : i / 64 < length due) (ok : verdict t size (messageAt f at) .refusal ≡ 0) where
+  module _ (ok : verdict t size (messageAt f at) .refusal ≡ 0) (due′ : List ℕ)
+      (noted : Noting due i due′ (verdict t size (messageAt f at) .done)) where
     abbrev on : Transactions
     on = after t (messageAt f at) (verdict t size (messageAt f at))
 
@@ -331,21 +368,14 @@ module _ {f : List ℕ} {size : ℕ} {t₀ : Transactions} {ms₀ : List Message
     now-done =
         ap (doneAt size t₀ ms₀) (sym (add-zero i)) ∙ g .ahead 0 ∙ ap (λ (l : List Message). doneAt size t l 0) (first-left .1 .is)
 
-    abbrev noted-now : List ℕ
-    noted-now = notedOf due i (verdict t size (messageAt f at) .done)
-
-    behind-on : (j : ℕ) → j < suc i → dueAt noted-now j ≡ doneAt size t₀ ms₀ j
+    behind-on : (j : ℕ) → j < suc i → dueAt due′ j ≡ doneAt size t₀ ms₀ j
     behind-on j l = go (decLt j i)
       where
-        go : Dec (j < i) → dueAt (notedOf due i (verdict t size (messageAt f at) .done)) j ≡ doneAt size t₀ ms₀ j
-        go (yes h) = noted-other due i fits j (verdict t size (messageAt f at) .done) (λ e. omega (arith, e)) ∙ g .behind j h
+        go : Dec (j < i) → dueAt due′ j ≡ doneAt size t₀ ms₀ j
+        go (yes h) = noted .kept j h ∙ g .behind j h
         go (no h) =
             let e : j ≡ i = omega arith in
-            rw e (noted-same due i fits (verdict t size (messageAt f at) .done) (g .clear i (omega arith)) ∙ sym now-done)
-
-    clear-on : (j : ℕ) → suc i ≤ j → dueAt noted-now j ≡ false
-    clear-on j l =
-        noted-other due i fits j (verdict t size (messageAt f at) .done) (λ e. omega (arith, e)) ∙ g .clear j (omega arith)
+            rw e (noted .noted-now ∙ sym now-done)
 
     counts-on : (length ms₀ ≡ suc i + length rest-here)
         × (total ms₀ ≡ b + length (messageAt f at .bytes) + total rest-here)
@@ -363,7 +393,7 @@ module _ {f : List ℕ} {size : ℕ} {t₀ : Transactions} {ms₀ : List Message
     pub judging-ends : follows (field f (at + 23) 1) ≡ false
         → (course size 0 t₀ ms₀ ≡ through on) × (length ms₀ ≡ suc i) × (total ms₀ ≡ b + length (messageAt f at .bytes))
         × (dones size t₀ ms₀ ≡ c + cond (verdict t size (messageAt f at) .done) 1 0)
-        × ((j : ℕ) → j < length ms₀ → dueAt noted-now j ≡ doneAt size t₀ ms₀ j)
+        × ((j : ℕ) → j < length ms₀ → dueAt due′ j ≡ doneAt size t₀ ms₀ j)
     unfolding course total dones rest-here
     judging-ends z =
         let none : first-left .1 .rest ≡ [] = first-left .1 .last z in
@@ -375,7 +405,7 @@ module _ {f : List ℕ} {size : ℕ} {t₀ : Transactions} {ms₀ : List Message
     -- another follows
     pub judging-turn : follows (field f (at + 23) 1) ≡ true
         → Judging f size t₀ ms₀ (nextHeader (dataEnd f at)) (suc i) (b + length (messageAt f at .bytes))
-        (c + cond (verdict t size (messageAt f at) .done) 1 0) on noted-now
+        (c + cond (verdict t size (messageAt f at) .done) 1 0) on due′
     unfolding rest-here
     judging-turn z =
         record {
@@ -385,20 +415,19 @@ module _ {f : List ℕ} {size : ℕ} {t₀ : Transactions} {ms₀ : List Message
           is = is-on;
           ahead = ahead-on;
           behind = behind-on;
-          clear = clear-on;
           counted = counts-on .0;
           bytes-left = counts-on .1;
           dones-left = counts-on .2;
         }
 
   -- the same as code has it
-  pub judging-on : i / 64 < length due → verdict t size (messageAt f at) .refusal ≡ 0 → follows (field f (at + 23) 1) ≡ true
+  pub judging-on : verdict t size (messageAt f at) .refusal ≡ 0 → follows (field f (at + 23) 1) ≡ true
       → (next i′ b′ c′ : ℕ) (t′ : Transactions) (due′ : List ℕ) → next ≡ nextHeader (dataEnd f at) → i′ ≡ suc i
       → b′ ≡ b + length (messageAt f at .bytes) → c′ ≡ c + cond (verdict t size (messageAt f at) .done) 1 0
       → t′ ≡ after t (messageAt f at) (verdict t size (messageAt f at))
-      → due′ ≡ notedOf due i (verdict t size (messageAt f at) .done) → Judging f size t₀ ms₀ next i′ b′ c′ t′ due′
-  judging-on fits ok z next i′ b′ c′ t′ due′ n-is i-is b-is c-is t-is d-is =
-      rw (n-is, i-is, b-is, c-is, t-is, d-is) (judging-turn fits ok z)
+      → Noting due i due′ (verdict t size (messageAt f at) .done) → Judging f size t₀ ms₀ next i′ b′ c′ t′ due′
+  judging-on ok z next i′ b′ c′ t′ due′ n-is i-is b-is c-is t-is noted =
+      rw (n-is, i-is, b-is, c-is, t-is) (judging-turn ok due′ noted z)
 
   -- what the first pass may answer
   pub stopped-right : (j : Judged) → j .refusal ≢ 0 → j .refusal ≡ verdict t size (messageAt f at) .refusal → j .messages ≡ i
@@ -413,22 +442,22 @@ module _ {f : List ℕ} {size : ℕ} {t₀ : Transactions} {ms₀ : List Message
         dues-marked = λ z. absurd (ne z);
       }
 
-  pub ended-right : (j : Judged) → i / 64 < length due → verdict t size (messageAt f at) .refusal ≡ 0
+  pub ended-right : (j : Judged) → verdict t size (messageAt f at) .refusal ≡ 0
       → follows (field f (at + 23) 1) ≡ false → j .refusal ≡ 0
       → record { lowest = j .lowest .0; closed = j .closed; table = j .table }
       ≡ after t (messageAt f at) (verdict t size (messageAt f at))
       → j .messages ≡ suc i → j .bytes ≡ b + length (messageAt f at .bytes)
       → j .completed ≡ c + cond (verdict t size (messageAt f at) .done) 1 0
-      → j .due ≡ notedOf due i (verdict t size (messageAt f at) .done) → RightlyJudged ms₀ t₀ size j
-  ended-right j fits ok z r t-is m-is b-is c-is d-is =
-      let e = judging-ends fits ok z in
+      → Noting due i (j .due) (verdict t size (messageAt f at) .done) → RightlyJudged ms₀ t₀ size j
+  ended-right j ok z r t-is m-is b-is c-is noted =
+      let e = judging-ends ok (j .due) noted z in
       record {
         stops = λ n. absurd (n r);
         goes = λ n. e .0 ∙ ap through (sym t-is);
         all-counted = λ n. m-is ∙ sym (e .1);
         bytes-counted = λ n. b-is ∙ sym (e .2);
         dones-counted = λ n. c-is ∙ sym (e .3);
-        dues-marked = λ n k l. ap (λ (d : List ℕ). dueAt d k) d-is ∙ e .4 k l;
+        dues-marked = λ n. e .4;
       }
 
 -- ---- what code knows of the message that it found
@@ -447,9 +476,9 @@ pub record Steady (f : List ℕ) (at i b c : ℕ) (table : List Open) (due : Lis
   pub places : length table ≡ 32
   pub words : length due ≡ 6
 
-pub steady-start : (f : List ℕ) (table : List Open) → length f ≤ 9000 → length table ≡ 32
-    → Steady f 10 0 0 0 table (replicate 6 0)
-steady-start f table h l =
+pub steady-start : (f : List ℕ) (table : List Open) (due : List ℕ) → length f ≤ 9000 → length table ≡ 32 → length due ≡ 6
+    → Steady f 10 0 0 0 table due
+steady-start f table due h l k =
     record {
       short = h;
       spaced = omega arith;
@@ -457,7 +486,7 @@ steady-start f table h l =
       bytes-low = omega arith;
       completed-low = omega arith;
       places = l;
-      words = refl;
+      words = k;
     }
 
 module _ {f : List ℕ} {at i b c : ℕ} {table : List Open} {due : List ℕ} {h : MessageHeader} {len : ℕ} {more : Bool} {next : ℕ}
@@ -465,18 +494,22 @@ module _ {f : List ℕ} {at i b c : ℕ} {table : List Open} {due : List ℕ} {h
   pub in-words : i / 64 < length due
   in-words = omega (arith, s .spaced, s .near, s .short, s .words)
 
-  pub steady-turn : (slot : Open) (place word one : ℕ) → one ≤ 1
-      → Steady f next (i + 1) (b + len) (c + one) (set table place slot) (set due (i / 64) word)
-  steady-turn slot place word one l =
+  pub steady-turn : (one : ℕ) (table′ : List Open) (due′ : List ℕ) → one ≤ 1 → length table′ ≡ length table
+      → length due′ ≡ length due → Steady f next (i + 1) (b + len) (c + one) table′ due′
+  steady-turn one table′ due′ l p q =
       record {
         short = s .short;
         spaced = omega (arith, s .spaced, w .next-beyond);
         near = omega (arith, w .next-within);
         bytes-low = omega (arith, s .bytes-low, w .next-beyond);
         completed-low = omega (arith, s .completed-low);
-        places = length-set table place slot ∙ s .places;
-        words = length-set due (i / 64) word ∙ s .words;
+        places = p ∙ s .places;
+        words = q ∙ s .words;
       }
+
+  pub steady-set : (slot : Open) (place word one : ℕ) → one ≤ 1
+      → Steady f next (i + 1) (b + len) (c + one) (set table place slot) (set due (i / 64) word)
+  steady-set slot place word one l = steady-turn one _ _ l (length-set table place slot) (length-set due (i / 64) word)
 
 -- the header and the length that were read are the message's
 pub head-is : {f : List ℕ} {at : ℕ} {h : MessageHeader} {len : ℕ} {more : Bool} {next : ℕ} → IsWhole f at h len more next
@@ -485,22 +518,25 @@ unfolding headOf messageAt headAt
 head-is w = w .header-is
 
 pub verdict-is : {f : List ℕ} {at : ℕ} {h : MessageHeader} {len : ℕ} {more : Bool} {next : ℕ} → IsWhole f at h len more next
-    → (t : Transactions) (size : ℕ)
-    → verdictOf (t .lowest) (t .closed) (getD (t .table) (h .trans .0 % 32) free) h len size ≡ verdict t size (messageAt f at)
+    → (t : Transactions) (size s : ℕ) → s ≡ h .trans .0 % 32
+    → verdictOf (t .lowest) (t .closed) (getD (t .table) s free) h len size ≡ verdict t size (messageAt f at)
 unfolding verdict headOf
-verdict-is w t size = rw (head-is w, ← w .bytes-are)
+verdict-is w t size s s-is = rw (s-is, head-is w, ← w .bytes-are)
 
 pub after-is : {f : List ℕ} {at : ℕ} {h : MessageHeader} {len : ℕ} {more : Bool} {next : ℕ} → IsWhole f at h len more next
-    → (t : Transactions) (v v′ : Verdict) → v ≡ v′
-    → record { lowest = v .lowest .0; closed = v .closed; table = set (t .table) (h .trans .0 % 32) (v .slot) }
-    ≡ after t (messageAt f at) v′
+    → (t : Transactions) (v v′ : Verdict) (s : ℕ) → v ≡ v′ → s ≡ h .trans .0 % 32
+    → record { lowest = v .lowest .0; closed = v .closed; table = set (t .table) s (v .slot) } ≡ after t (messageAt f at) v′
 unfolding after headOf
-after-is w t v v′ e = rw (e, head-is w)
+after-is w t v v′ s e s-is = rw (e, s-is, head-is w)
 
-pub noted-is : (due : List ℕ) (i word : ℕ) (done done′ : Bool) → word ≡ notedWord (getD due (i / 64) 0) (i % 64) done
-    → done ≡ done′ → set due (i / 64) word ≡ notedOf due i done′
-unfolding notedOf
-noted-is due i word done done′ e d = rw (e, d)
+-- a message that leaves no trace leaves the table as it is
+pub untouched : {f : List ℕ} {at : ℕ} {h : MessageHeader} {len : ℕ} {more : Bool} {next : ℕ} → IsWhole f at h len more next
+    → (t : Transactions) (v v′ : Verdict) (s : ℕ) → v ≡ v′ → s ≡ h .trans .0 % 32 → v .slot ≡ getD (t .table) s free
+    → record { lowest = v .lowest .0; closed = v .closed; table = t .table } ≡ after t (messageAt f at) v′
+untouched w t v v′ s e s-is o =
+    let same : set (t .table) s (v .slot) ≡ t .table = rw o (set-getD (t .table) s free) in
+    ap (λ (l : List Open). record { lowest = v .lowest .0; closed = v .closed; table = l }) (sym same)
+    ∙ after-is w t v v′ s e s-is
 
 pub one-is : (c one : ℕ) (done done′ : Bool) → one ≡ cond done 1 0 → done ≡ done′ → c + one ≡ c + cond done′ 1 0
 one-is c one done done′ e d = rw (e, d)
@@ -573,16 +609,16 @@ pub run-low : (m : ℕ) → leadingOnes 64 m ≤ 64
 unfolding leadingOnes
 run-low m = leading-le (mark m) 64
 
-pub taken : (p : Pair) (f memory : List ℕ) (num d : ℕ) (j : Judged) (ms : List Message) → messagesFrom (length f) f 10 ≡ some ms
-    → d ≡ distance frameSpace (p .next .0) num → RightlyJudged ms (transactionsOf p) (length memory) j → j .refusal ≡ 0
+pub taken : (p : Pair) (f memory : List ℕ) (num : ℕ) (j : Judged) (ms : List Message) → messagesFrom (length f) f 10 ≡ some ms
+    → RightlyJudged ms (transactionsOf p) (length memory) j → j .refusal ≡ 0
     → concluded p memory num (takeAll (tallyOf p memory) 0 ms) ≡ record {
-      pair = acceptedPair p d j;
+      pair = acceptedPair p num (record { lowest = j .lowest .0; closed = j .closed; table = j .table });
       memory = writtenFrom (j .messages) f 10 (j .due) 0 memory;
       answer = Accepted (record { 0 = num })
           (record { messages = j .messages; bytes = j .bytes; completed = j .completed });
     }
-unfolding acceptedPair accepting summed
-taken p f memory num d j ms e d-is right ok =
+unfolding accepting summed
+taken p f memory num j ms e right ok =
     let w = second-pass f (j .due) (length memory) (length f) 10 0 (transactionsOf p) memory ms e
     (λ i l. ap (dueAt (j .due)) (zero-add i) ∙ right .dues-marked ok i l) in
     ap (concluded p memory num) (taken-through (length memory) 0 (tallyOf p memory) ms _ refl (right .goes ok))
@@ -594,7 +630,6 @@ taken p f memory num d j ms e d-is right ok =
       ← right .all-counted ok,
       ← right .bytes-counted ok,
       ← right .dones-counted ok,
-      ← d-is,
     )
 
 pub not-taken : (p : Pair) (memory : List ℕ) (num : ℕ) (j : Judged) (ms : List Message)

@@ -181,7 +181,7 @@ module _ (p : Pair) (f memory : List ℕ) (num d : ℕ) (w : Awaited p f num d) 
 
     abbrev pub effected : Received
     effected = record {
-      pair = acceptedPair p d j;
+      pair = acceptedPair p num (record { lowest = j .lowest .0; closed = j .closed; table = j .table });
       memory = writtenFrom (j .messages) f 10 (j .due) 0 memory;
       answer = Accepted (record { 0 = num })
           (record { messages = j .messages; bytes = j .bytes; completed = j .completed });
@@ -197,4 +197,4 @@ module _ (p : Pair) (f memory : List ℕ) (num d : ℕ) (w : Awaited p f num d) 
             absurd (omega arith)
         go (some ms) e =
             awaited-some ms e .1 ∙ numbered-new p memory num d ms (w .d-is) new clear
-            ∙ taken p f memory num d j ms e (w .d-is) (right ms e) ok
+            ∙ taken p f memory num j ms e (right ms e) ok

@@ -8,10 +8,10 @@ use mathlib.Core.Bool.{Bool, true, false, cond}
 use mathlib.Core.List.{List, [], _∷_}
 use mathlib.Core.Option.{some}
 use lib.Dec.{eqb, leb}
-use lib.ListN.{length, getD, set}
+use lib.ListN.{length, getD, set, replicate}
 use Prim.Native.Nat.{_≤_, _<_}
-use Rattle.seq.specs.Ring.{distance, advance, frameSpace}
-use Rattle.marks.specs.Marks.{mark, withMark, leadingOnes}
+use Rattle.seq.specs.Ring.{distance, frameSpace}
+use Rattle.marks.specs.Marks.{mark, withMark}
 use Rattle.wire.specs.Format.{Message, nextHeader}
 use Rattle.wire.specs.Reading.{
   number,
@@ -26,12 +26,15 @@ use Rattle.wire.specs.Reading.{
 }
 use Rattle.reader.specs.declared.Layout.the-variants.{Counts}
 use Rattle.reader.specs.Layout.{total, layoutOf}
+use Rattle.transactions.specs.declared.Open.{Open}
 use Rattle.transactions.specs.declared.Verdict.{Verdict}
 use Rattle.transactions.specs.Transactions.{Transactions, verdict, after}
+use Rattle.host.specs.declared.Answer.{Answer}
+use Rattle.host.specs.declared.Closing.{Closing}
 use Rattle.host.specs.declared.Judged.{Judged}
 use Rattle.host.specs.declared.Pair.{Pair}
 use Rattle.host.specs.declared.Stepped.{Stepped}
-use Rattle.host.specs.Host.{effect, refused, receiveOf, steppedOf}
+use Rattle.host.specs.Host.{effect, refused, accepting, transactionsOf, receiveOf, steppedOf}
 
 -- ---- the first pass
 
@@ -81,6 +84,31 @@ pub record RightlyJudged (ms : List Message) (t : Transactions) (size : ℕ) (j 
 abbrev pub JudgesFrame : List ℕ → Transactions → ℕ → Judged → Type 0
 JudgesFrame f t size j = (ms : List Message) → messagesFrom (length f) f 10 ≡ some ms → RightlyJudged ms t size j
 
+-- Where nothing is refused, the whole layout was read.
+abbrev pub LayoutWhole : List ℕ → Judged → Type 0
+LayoutWhole f j =
+    j .refusal ≡ 0 → Counts (j .messages) (j .bytes) ≡ layoutOf (orPassesEnd (messagesFrom (length f) f 10))
+
+-- A message that completes its transaction and leaves the transaction's place as it is.
+abbrev pub NoTrace : Verdict → Open → Type 0
+NoTrace v o = (v .refusal ≡ 0) × (v .done ≡ true) × (v .slot ≡ o)
+
+-- A frame of such messages alone, judged: every one is due, and the table stays.
+abbrev pub allClosing : Closing → List Open → Judged
+allClosing c table = record {
+  refusal = 0;
+  messages = c .messages;
+  bytes = c .bytes;
+  completed = c .messages;
+  lowest = c .lowest;
+  closed = c .closed;
+  table = table;
+  due = replicate 6 18446744073709551615;
+}
+
+abbrev pub ClosesFrame : List ℕ → Transactions → ℕ → Closing → Type 0
+ClosesFrame f t size c = JudgesFrame f t size (allClosing c (t .table)) × LayoutWhole f (allClosing c (t .table))
+
 -- ---- the second pass
 
 -- The messages from an offset on, n at most, written one after another; i is the index of the first.
@@ -93,24 +121,10 @@ writtenFrom (suc n) f at due i memory =
 
 -- ---- both
 
-unfoldable pub acceptedPair : Pair → ℕ → Judged → Pair
-acceptedPair p d j =
-    let marked = withMark 64 (p .marks) d in
-    let run = leadingOnes 64 marked in
-    record {
-      own = p .own;
-      peer = p .peer;
-      next = record { 0 = advance frameSpace (p .next .0) run };
-      marks = marked / 2 ^ run;
-      lowest = j .lowest;
-      closed = j .closed;
-      table = j .table;
-    }
-
--- Where nothing is refused, the whole layout was read.
-abbrev pub LayoutWhole : List ℕ → Judged → Type 0
-LayoutWhole f j =
-    j .refusal ≡ 0 → Counts (j .messages) (j .bytes) ≡ layoutOf (orPassesEnd (messagesFrom (length f) f 10))
+-- The pair after a frame was accepted, by the transactions that it leaves.
+abbrev pub acceptedPair : Pair → ℕ → Transactions → Pair
+acceptedPair p num t =
+    accepting p num (record { transactions = t; memory = []; messages = 0; bytes = 0; completed = 0 }) .pair
 
 -- A frame with messages whose header is in order.
 pub record Awaited (p : Pair) (f : List ℕ) (num d : ℕ) : Type 0 where
@@ -122,19 +136,26 @@ pub record Awaited (p : Pair) (f : List ℕ) (num d : ℕ) : Type 0 where
   pub d-is : d ≡ distance frameSpace (p .next .0) num
 
 -- What is made of it where its number is new, and where it is not: then memory is not touched.
-abbrev pub TakesFrame : Pair → List ℕ → List ℕ → ℕ → ℕ → Stepped → List ℕ → Type 0
-TakesFrame p f memory num d r left =
-    Awaited p f num d → d < 64 → mark (p .marks) d ≡ false
+abbrev pub TakesFrame : Pair → List ℕ → List ℕ → ℕ → Stepped → List ℕ → Type 0
+TakesFrame p f memory num r left =
+    (d : ℕ) → Awaited p f num d → d < 64 → mark (p .marks) d ≡ false
     → (r ≡ steppedOf (receiveOf p f memory)) × (left ≡ receiveOf p f memory .memory)
+
+abbrev pub TakesClosing : Pair → List ℕ → List ℕ → ℕ → Closing → Stepped → List ℕ → Type 0
+TakesClosing p f memory num c r left =
+    ClosesFrame f (transactionsOf p) (length memory) c → TakesFrame p f memory num r left
 
 abbrev pub AnswersOld : Pair → List ℕ → ℕ → ℕ → Stepped → Type 0
 AnswersOld p f num d r =
     (memory : List ℕ) → Awaited p f num d → (64 ≤ d) ⊎ (mark (p .marks) d ≡ true)
     → (r ≡ steppedOf (receiveOf p f memory)) × (memory ≡ receiveOf p f memory .memory)
 
+-- Nothing changed, and this answer.
+abbrev pub stepped : Pair → Answer → Stepped
+stepped p a = record { pair = p; answer = a }
+
 -- A refusal of a message, where the layout of the messages behind it is not known yet: 5 comes first.
 unfoldable pub refusedWith : Pair → List ℕ → ℕ → ℕ → Stepped
 refusedWith p f stop place =
-    cond (eqb (refusalOf (readFrame (addressed (p .own) (p .peer) f) f)) 0)
-    (record { pair = p; answer = refused stop place })
-    (record { pair = p; answer = refused (refusalOf (readFrame (addressed (p .own) (p .peer) f) f)) 0 })
+    let cut = refusalOf (readFrame (addressed (p .own) (p .peer) f) f) in
+    cond (eqb cut 0) (stepped p (refused stop place)) (stepped p (refused cut 0))

@@ -5,28 +5,36 @@ use reader::Found;
 use seq::FrameNo;
 use seq::TransNo;
 use transactions::Open;
+use transactions::Verdict;
 use wire::MessageHeader;
 ghost use mathlib.Core.Path.{_≡_};
+ghost use mathlib.Core.Logic.{_≢_};
 ghost use mathlib.Core.Bool.{Bool, true, false, cond};
-ghost use Prim.Native.Nat.{_+_, _≤_, _<_};
+ghost use Prim.Native.Nat.{_+_, _%_, _≤_, _<_};
 ghost use lib.ListN.{length};
 ghost use Rattle.wire.specs.Format.{carrying};
+ghost use Rattle.host.specs.declared.Answer.the-variants.{Again};
 ghost use Rattle.host.specs.Host.{
   fresh,
   openedOf,
   effect,
   receiveOf,
+  refused,
   steppedOf,
   acknowledgementOf,
 };
 ghost use Rattle.host.specs.Passes.{
+  NoTrace,
+  ClosesFrame,
   notedWord,
   JudgesFrame,
+  LayoutWhole,
   writtenFrom,
   acceptedPair,
-  LayoutWhole,
+  TakesClosing,
   TakesFrame,
   AnswersOld,
+  stepped,
   refusedWith,
 };
 
@@ -156,8 +164,103 @@ pub fn acknowledge(own: u16, peer: u16, answer: Answer, number: FrameNo) -> Ackn
 
 // ---- the first pass: every message judged, nothing written
 
-// What it found: a refusal, and then messages is the index of the message that it is about; or none, and then the sums, the
-// transactions as they are after the frame, and marks of the messages that complete theirs.
+// The place in the table of a message's transaction.
+fn place_of(h: MessageHeader) -> usize
+    ensures { λ r. ⌜ (r ≡ h .trans .0 % 32) × (r < 32) ⌝ }
+{
+    let trans = h.trans;
+    (trans.0 % 32) as usize
+}
+
+fn is_same(a: Open, b: Open) -> bool
+    ensures { λ r. ⌜ (r ≡ true → a ≡ b) ⌝ }
+{
+    if a.received != b.received {
+        return false;
+    }
+    if a.count != b.count {
+        return false;
+    }
+    if a.target != b.target {
+        return false;
+    }
+    a.value == b.value
+}
+
+// Whether a message completes its transaction and leaves the transaction's place in the table as it is.
+fn leaves_no_trace(v: Verdict, o: Open) -> bool
+    ensures { λ r. ⌜ (r ≡ true → NoTrace v o) ⌝ }
+{
+    if v.refusal != 0 {
+        return false;
+    }
+    if !v.done {
+        return false;
+    }
+    let slot = v.slot;
+    is_same(slot, o)
+}
+
+// What is found of a frame whose messages all complete their transaction and leave no trace in the table: most frames of short
+// transactions, and no table is copied for them. Of any other frame no messages.
+struct Closing {
+    pub messages: u32,
+    pub bytes: u32,
+    pub lowest: TransNo,
+    pub closed: u32,
+}
+
+fn make_closing(messages: u32, bytes: u32, lowest: TransNo, closed: u32) -> Closing
+    ensures { λ r. ⌜ r ≡ record { messages = messages; bytes = bytes; lowest = lowest; closed = closed } ⌝ }
+{
+    Closing {
+        messages,
+        bytes,
+        lowest,
+        closed,
+    }
+}
+
+// Judges a frame's messages as judge_all does, up to the first that is refused or leaves a trace.
+fn judge_closing(low: TransNo, shut: u32, table: [Open; 32], f: &[u8], size: usize) -> Closing
+    requires { ⌜ length (now f) ≤ 9000 ⌝ }
+    ensures { λ r. ⌜ r .messages ≤ 375 ⌝ }
+    ensures { λ r. ⌜ (r .messages ≢ 0 → ClosesFrame (now (f .entry)) (record { lowest = low .0; closed = shut; table = table }) size r) ⌝ }
+{
+    let mut lowest = low;
+    let mut closed = shut;
+    let mut messages: u32 = 0;
+    let mut bytes: u32 = 0;
+    let mut at = 10;
+    loop {
+        let found = reader::message_at(f, at);
+        match found {
+            Found::PastEnd => {
+                return make_closing(0, 0, low, shut);
+            }
+            Found::Whole(h, len, more, next) => {
+                let s = place_of(h);
+                let o = table[s];
+                let v = transactions::judge(lowest, closed, o, h, len, size);
+                if !leaves_no_trace(v, o) {
+                    return make_closing(0, 0, low, shut);
+                }
+                let moved = v.lowest;
+                lowest = moved;
+                closed = v.closed;
+                messages += 1;
+                bytes += len as u32;
+                if !more {
+                    return make_closing(messages, bytes, lowest, closed);
+                }
+                at = next;
+            }
+        }
+    }
+}
+
+// What is found of any frame: a refusal, and then messages is the index of the message that it is about; or none, and then the
+// sums, the transactions as they are after the frame, and marks of the messages that complete theirs.
 struct Judged {
     pub refusal: u8,
     pub messages: u32,
@@ -167,6 +270,39 @@ struct Judged {
     pub closed: u32,
     pub table: [Open; 32],
     pub due: [u64; 6],
+}
+
+fn make_judged(
+    refusal: u8,
+    messages: u32,
+    bytes: u32,
+    completed: u32,
+    lowest: TransNo,
+    closed: u32,
+    table: [Open; 32],
+    due: [u64; 6],
+) -> Judged
+    ensures { λ r. ⌜ r ≡ record {
+      refusal = refusal;
+      messages = messages;
+      bytes = bytes;
+      completed = completed;
+      lowest = lowest;
+      closed = closed;
+      table = table;
+      due = due;
+    } ⌝ }
+{
+    Judged {
+        refusal,
+        messages,
+        bytes,
+        completed,
+        lowest,
+        closed,
+        table,
+        due,
+    }
 }
 
 // A word of due with message i of it marked where that completes its transaction.
@@ -207,8 +343,8 @@ fn judge_all(low: TransNo, shut: u32, places: [Open; 32], f: &[u8], size: usize)
         let found = reader::message_at(f, at);
         match found {
             Found::PastEnd => {
-                return Judged {
-                    refusal: refusal::PAST_END,
+                return make_judged(
+                    refusal::PAST_END,
                     messages,
                     bytes,
                     completed,
@@ -216,16 +352,14 @@ fn judge_all(low: TransNo, shut: u32, places: [Open; 32], f: &[u8], size: usize)
                     closed,
                     table,
                     due,
-                };
+                );
             }
             Found::Whole(h, len, more, next) => {
-                let trans = h.trans;
-                let s = (trans.0 % 32) as usize;
+                let s = place_of(h);
                 let v = transactions::judge(lowest, closed, table[s], h, len, size);
-                let stop = v.refusal;
-                if stop != 0 {
-                    return Judged {
-                        refusal: stop,
+                if v.refusal != 0 {
+                    return make_judged(
+                        v.refusal,
                         messages,
                         bytes,
                         completed,
@@ -233,7 +367,7 @@ fn judge_all(low: TransNo, shut: u32, places: [Open; 32], f: &[u8], size: usize)
                         closed,
                         table,
                         due,
-                    };
+                    );
                 }
                 let slot = v.slot;
                 let moved = v.lowest;
@@ -246,16 +380,7 @@ fn judge_all(low: TransNo, shut: u32, places: [Open; 32], f: &[u8], size: usize)
                 bytes += len as u32;
                 completed += one_if(v.done);
                 if !more {
-                    return Judged {
-                        refusal: 0,
-                        messages,
-                        bytes,
-                        completed,
-                        lowest,
-                        closed,
-                        table,
-                        due,
-                    };
+                    return make_judged(0, messages, bytes, completed, lowest, closed, table, due);
                 }
                 at = next;
             }
@@ -306,24 +431,40 @@ fn write_all(f: &[u8], memory: &mut [u8], due: [u64; 6], n: u32)
 
 // ---- receiving
 
-// The pair after a frame d past the next one was accepted: its number is marked, and next moves past every consecutive accepted
-// number.
-fn accept(pair: Pair, d: u16, judged: Judged) -> Pair
-    ensures { λ r. ⌜ r ≡ acceptedPair pair d judged ⌝ }
+// The pair after a frame was accepted, with the transactions that it leaves: its number is marked, and next moves past every
+// consecutive accepted number.
+fn accept(pair: Pair, number: FrameNo, lowest: TransNo, closed: u32, table: [Open; 32]) -> Pair
+    ensures { λ r. ⌜ r ≡ acceptedPair pair (number .0) (record { lowest = lowest .0; closed = closed; table = table }) ⌝ }
 {
-    let marked = word64::with_mark(pair.marks, d as u32);
-    let run = word64::leading_ones(marked);
     let next = pair.next;
-    let lowest = judged.lowest;
-    let table = judged.table;
+    let marked = word64::with_mark(pair.marks, number.distance(next) as u32);
+    let run = word64::leading_ones(marked);
     Pair {
         own: pair.own,
         peer: pair.peer,
         next: next.advance(run as u16),
         marks: word64::shifted(marked, run),
         lowest,
-        closed: judged.closed,
+        closed,
         table,
+    }
+}
+
+fn refusing(pair: Pair, number: u8, place: u32) -> Stepped
+    ensures { λ r. ⌜ r ≡ stepped pair (refused number place) ⌝ }
+{
+    Stepped {
+        pair,
+        answer: Answer::Refused(Refusal { number, place }),
+    }
+}
+
+fn again(pair: Pair, number: FrameNo) -> Stepped
+    ensures { λ r. ⌜ r ≡ stepped pair (Again number) ⌝ }
+{
+    Stepped {
+        pair,
+        answer: Answer::Again(number),
     }
 }
 
@@ -333,46 +474,57 @@ fn refuse(pair: Pair, f: &[u8], stop: u8, place: u32) -> Stepped
 {
     let cut = reader::refusal_of(f, pair.own, pair.peer);
     if cut != 0 {
-        return Stepped {
-            pair,
-            answer: Answer::Refused(Refusal {
-                number: cut,
-                place: 0,
-            }),
-        };
+        return refusing(pair, cut, 0);
     }
-    Stepped {
-        pair,
-        answer: Answer::Refused(Refusal {
-            number: stop,
-            place,
-        }),
-    }
+    refusing(pair, stop, place)
 }
 
-// A frame with messages, d past the next one and not accepted before: its messages are judged, and where none is refused all
-// take effect. The first pass finds a bad layout by itself.
-fn take_in(pair: Pair, f: &[u8], memory: &mut [u8], number: FrameNo, d: u16) -> Stepped
-    requires { ⌜ length (now f) ≤ 9000 ⌝ }
-    ensures { λ r. ⌜ TakesFrame pair (now (f .entry)) (now (memory .entry)) (number .0) d r (now (memory .exit)) ⌝ }
+// A frame with messages that all complete their transaction and leave no trace: they take effect, and the table stays.
+fn take_closing(pair: Pair, f: &[u8], memory: &mut [u8], number: FrameNo, all: Closing) -> Stepped
+    requires { ⌜ (length (now f) ≤ 9000) × (all .messages ≤ 375) ⌝ }
+    ensures { λ r. ⌜ TakesClosing pair (now (f .entry)) (now (memory .entry)) (number .0) all r (now (memory .exit)) ⌝ }
 {
-    let lowest = pair.lowest;
+    let due = [18446744073709551615u64; 6];
+    write_all(f, memory, due, all.messages);
+    let lowest = all.lowest;
     let table = pair.table;
-    let judged = judge_all(lowest, pair.closed, table, f, memory.len());
-    let stop = judged.refusal;
-    if stop != 0 {
-        return refuse(pair, f, stop, judged.messages);
-    }
-    let due = judged.due;
-    write_all(f, memory, due, judged.messages);
     Stepped {
-        pair: accept(pair, d, judged),
+        pair: accept(pair, number, lowest, all.closed, table),
         answer: Answer::Accepted(
             number,
             Sums {
-                messages: judged.messages,
-                bytes: judged.bytes,
-                completed: judged.completed,
+                messages: all.messages,
+                bytes: all.bytes,
+                completed: all.messages,
+            },
+        ),
+    }
+}
+
+// A frame with messages and a new number: its messages are judged, and where none is refused all take effect. The first pass
+// finds a bad layout by itself.
+fn take_in(pair: Pair, f: &[u8], memory: &mut [u8], number: FrameNo) -> Stepped
+    requires { ⌜ length (now f) ≤ 9000 ⌝ }
+    ensures { λ r. ⌜ TakesFrame pair (now (f .entry)) (now (memory .entry)) (number .0) r (now (memory .exit)) ⌝ }
+{
+    let low = pair.lowest;
+    let places = pair.table;
+    let found = judge_all(low, pair.closed, places, f, memory.len());
+    if found.refusal != 0 {
+        return refuse(pair, f, found.refusal, found.messages);
+    }
+    let due = found.due;
+    write_all(f, memory, due, found.messages);
+    let lowest = found.lowest;
+    let table = found.table;
+    Stepped {
+        pair: accept(pair, number, lowest, found.closed, table),
+        answer: Answer::Accepted(
+            number,
+            Sums {
+                messages: found.messages,
+                bytes: found.bytes,
+                completed: found.completed,
             },
         ),
     }
@@ -384,33 +536,15 @@ fn answer_old(pair: Pair, f: &[u8], number: FrameNo, d: u16) -> Stepped
 {
     let cut = reader::refusal_of(f, pair.own, pair.peer);
     if cut != 0 {
-        return Stepped {
-            pair,
-            answer: Answer::Refused(Refusal {
-                number: cut,
-                place: 0,
-            }),
-        };
+        return refusing(pair, cut, 0);
     }
     if 32768 <= d {
-        return Stepped {
-            pair,
-            answer: Answer::Again(number),
-        };
+        return again(pair, number);
     }
     if d < 64 {
-        return Stepped {
-            pair,
-            answer: Answer::Again(number),
-        };
+        return again(pair, number);
     }
-    Stepped {
-        pair,
-        answer: Answer::Refused(Refusal {
-            number: refusal::FRAME_AHEAD,
-            place: 0,
-        }),
-    }
+    refusing(pair, refusal::FRAME_AHEAD, 0)
 }
 
 // Receives a frame: answers it, and hands back the pair as it is then. Memory changes only where the frame is accepted.
@@ -420,13 +554,7 @@ pub fn receive(pair: Pair, f: &[u8], memory: &mut [u8]) -> Stepped
 {
     let stop = reader::heading_refusal(f, pair.own, pair.peer);
     if stop != 0 {
-        return Stepped {
-            pair,
-            answer: Answer::Refused(Refusal {
-                number: stop,
-                place: 0,
-            }),
-        };
+        return refusing(pair, stop, 0);
     }
     let head = reader::frame_header(f);
     if head.flags == 0 {
@@ -444,5 +572,11 @@ pub fn receive(pair: Pair, f: &[u8], memory: &mut [u8]) -> Stepped
     if word64::is_marked(pair.marks, d as u32) {
         return answer_old(pair, f, number, d);
     }
-    take_in(pair, f, memory, number, d)
+    let lowest = pair.lowest;
+    let table = pair.table;
+    let all = judge_closing(lowest, pair.closed, table, f, memory.len());
+    if all.messages != 0 {
+        return take_closing(pair, f, memory, number, all);
+    }
+    take_in(pair, f, memory, number)
 }

@@ -1,6 +1,7 @@
 // The host driven over many frames in one call, so that a test can see the memory it leaves and a benchmark can time it. It adds
 // nothing to the host.
 use host::Answer;
+use host::Stepped;
 ghost use mathlib.Core.Path.{_≡_};
 ghost use Rattle.host_run.specs.Run.{bytesOf, runOf};
 
@@ -27,15 +28,18 @@ pub extern "C" fn lw_host_run(frames: &[u8], size: usize, memory: &mut [u8]) -> 
     }
     let n = frames.len() / size;
     let opened = host::open_pair(1, 2);
-    let mut pair = opened.pair;
+    let fresh = opened.pair;
+    let mut step = Stepped {
+        pair: fresh,
+        answer: Answer::NoMessages,
+    };
     let mut bytes: u64 = 0;
     let mut k = 0;
     while k < n {
         let at = k * size;
         let end = at + size;
-        let step = host::receive(pair, &frames[at..end], memory);
-        let after = step.pair;
-        pair = after;
+        let pair = step.pair;
+        step = host::receive(pair, &frames[at..end], memory);
         let answer = step.answer;
         bytes = std::num::wrapping_add_u64(bytes, bytes_of(answer));
         k += 1;

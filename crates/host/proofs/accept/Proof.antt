@@ -1,7 +1,7 @@
 -- `host::accept`: the mark and the move of the frame window.
 -- Assumes nothing.
 use native.Mathlib.Omega.{arith}
-use Rattle.host.specs.Passes.{acceptedPair}
+use Rattle.host.specs.Host.{accepting}
 use Rattle.host.proofs.Passes.{run-low}
 use borrow.Author.Needs.{needs}
 use Rattle.host.proofs.accept.Statement.{statement}
@@ -12,6 +12,13 @@ use Rattle.marks.proofs.word64.leading_ones.Reads as leading-ones-reads
 use Rattle.marks.proofs.word64.shifted.Reads as shifted-reads
 use Rattle.marks.proofs.word64.with_mark.Reads as with-mark-reads
 use Rattle.seq.proofs.FrameNo.advance.Reads as advance-reads
+use Rattle.seq.proofs.FrameNo.distance.Reads as distance-reads
+
+distance-requires : tie.Need-distance-requires
+distance-requires c κs = search needs
+
+cast-with-mark : tie.Need-cast-with-mark
+cast-with-mark c = search needs
 
 with-mark-requires : tie.Need-with-mark-requires
 with-mark-requires c κs = search needs
@@ -20,8 +27,7 @@ leading-ones-requires : tie.Need-leading-ones-requires
 leading-ones-requires c κs = search needs
 
 cast-advance : tie.Need-cast-advance
-cast-advance c =
-    omega (arith, c .before .before .before .leading-ones .ensures, run-low (c .before .before .before .before .with-mark .result))
+cast-advance c = omega (arith, c .leading-ones .ensures, run-low (c .before .with-mark .result))
 
 advance-requires : tie.Need-advance-requires
 advance-requires c κs = search needs
@@ -30,13 +36,16 @@ shifted-requires : tie.Need-shifted-requires
 shifted-requires c κs = search needs
 
 returns : tie.Need-returns
-unfolding acceptedPair
-returns c = rw (c .before .advance .ensures, c .shifted .ensures, c .before .before .before .before .before .leading-ones .ensures, c .before .before .before .before .before .before .with-mark .ensures)
+unfolding accepting
+returns c =
+    rw (c .before .advance .ensures, c .shifted .ensures, c .before .before .leading-ones .ensures, c .before .before .before .with-mark .ensures, c .before .before .before .before .distance .ensures)
 
 pub accept-spec : {M : Type 1} → statement M
 accept-spec =
     tie.close
     (tie.spec
+    distance-requires
+    cast-with-mark
     with-mark-requires
     leading-ones-requires
     cast-advance

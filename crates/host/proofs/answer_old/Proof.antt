@@ -10,35 +10,60 @@ use Rattle.host.proofs.answer_old.Statement.{statement}
 use Rattle.host.proofs.answer_old.Tie as tie
 use Rattle.host.proofs.answer_old.Reads as reads
 use Rattle.host.proofs.answer_old.Lts as lts
+use Rattle.host.proofs.again.Reads as again-reads
+use Rattle.host.proofs.refusing.Reads as refusing-reads
 use Rattle.reader.proofs.refusal_of.Reads as refusal-of-reads
 
 refusal-of-requires : tie.Need-refusal-of-requires
 refusal-of-requires c κs = search needs
 
+refusing-requires : tie.Need-refusing-requires
+refusing-requires c κs = search needs
+
 returns : tie.Need-returns
 returns c memory w o =
-    let a = c .before .before .before .args in
-    let e = old-cut (a .pair) (a .f .now) memory _ _ w _ (c .before .refusal-of .ensures) (c .if1 .taken) in
-    (sym (ap steppedOf e), sym (ap (λ (r : Received). r .memory) e))
+    let a = c .before .before .before .before .args in
+    let e = old-cut (a .pair) (a .f .now) memory _ _ w _ (c .before .before .refusal-of .ensures) (c .before .if1 .taken) in
+    (c .refusing .ensures ∙ sym (ap steppedOf e), sym (ap (λ (r : Received). r .memory) e))
+
+again-requires : tie.Need-again-requires
+again-requires c κs = search needs
 
 returns-2 : tie.Need-returns-2
 returns-2 c memory w o =
-    let a = c .before .before .before .before .args in
-    let e = old-behind (a .pair) (a .f .now) memory _ _ w (sym (c .before .before .refusal-of .ensures) ∙ c .before .if1 .left) (c .if2 .taken) in
-    (sym (ap steppedOf e), sym (ap (λ (r : Received). r .memory) e))
+    let a = c .before .before .before .before .before .args in
+    let e = old-behind (a .pair) (a .f .now) memory _ _ w (sym (c .before .before .before .refusal-of .ensures) ∙ c .before .before .if1 .left) (c .before .if2 .taken) in
+    (c .again .ensures ∙ sym (ap steppedOf e), sym (ap (λ (r : Received). r .memory) e))
+
+again-requires-2 : tie.Need-again-requires-2
+again-requires-2 c κs = search needs
 
 returns-3 : tie.Need-returns-3
 returns-3 c memory w o =
-    let a = c .before .before .before .before .before .args in
-    let m = ⊎-elim (λ h. absurd (omega (arith, h, c .if3 .taken))) (λ m. m) o in
-    let e = old-again (a .pair) (a .f .now) memory _ _ w (sym (c .before .before .before .refusal-of .ensures) ∙ c .before .before .if1 .left) (omega arith) m in
-    (sym (ap steppedOf e), sym (ap (λ (r : Received). r .memory) e))
+    let a = c .before .before .before .before .before .before .args in
+    let m = ⊎-elim (λ h. absurd (omega (arith, h, c .before .if3 .taken))) (λ m. m) o in
+    let e = old-again (a .pair) (a .f .now) memory _ _ w (sym (c .before .before .before .before .refusal-of .ensures) ∙ c .before .before .before .if1 .left) (omega (arith, c .before .if3 .taken)) m in
+    (c .again2 .ensures ∙ sym (ap steppedOf e), sym (ap (λ (r : Received). r .memory) e))
+
+refusing-requires-2 : tie.Need-refusing-requires-2
+refusing-requires-2 c κs = search needs
 
 returns-4 : tie.Need-returns-4
 returns-4 c memory w o =
-    let a = c .before .before .before .before .before .args in
-    let e = old-ahead (a .pair) (a .f .now) memory _ _ w (sym (c .before .before .before .refusal-of .ensures) ∙ c .before .before .if1 .left) (omega arith) (omega arith) in
-    (sym (ap steppedOf e), sym (ap (λ (r : Received). r .memory) e))
+    let a = c .before .before .before .before .before .before .args in
+    let e = old-ahead (a .pair) (a .f .now) memory _ _ w (sym (c .before .before .before .before .refusal-of .ensures) ∙ c .before .before .before .if1 .left) (omega (arith, c .before .if3 .left)) (omega (arith, c .before .before .if2 .left)) in
+    (c .refusing2 .ensures ∙ sym (ap steppedOf e), sym (ap (λ (r : Received). r .memory) e))
 
 pub answer-old-spec : {M : Type 1} → statement M
-answer-old-spec = tie.close (tie.spec refusal-of-requires returns returns-2 returns-3 returns-4)
+answer-old-spec =
+    tie.close
+    (tie.spec
+    refusal-of-requires
+    refusing-requires
+    returns
+    again-requires
+    returns-2
+    again-requires-2
+    returns-3
+    refusing-requires-2
+    returns-4)

@@ -21,6 +21,9 @@ use Rattle.host.proofs.receive.Tie as tie
 use Rattle.host.proofs.receive.Reads as reads
 use Rattle.host.proofs.receive.Lts as lts
 use Rattle.host.proofs.answer_old.Reads as answer-old-reads
+use Rattle.host.proofs.judge_closing.Reads as judge-closing-reads
+use Rattle.host.proofs.refusing.Reads as refusing-reads
+use Rattle.host.proofs.take_closing.Reads as take-closing-reads
 use Rattle.host.proofs.take_in.Reads as take-in-reads
 use Rattle.marks.proofs.word64.is_marked.Reads as is-marked-reads
 use Rattle.reader.proofs.frame_header.Reads as frame-header-reads
@@ -46,11 +49,14 @@ awaited p f h head e ne d d-is =
 heading-refusal-requires : tie.Need-heading-refusal-requires
 heading-refusal-requires c κs = search needs
 
+refusing-requires : tie.Need-refusing-requires
+refusing-requires c κs = search needs
+
 returns : tie.Need-returns
 returns c =
-    let a = c .before .before .before .before .args in
-    let e = received-bad (a .pair) (a .f .now) (a .memory .now) _ (heading-stops _ (a .f .now) _ (c .before .heading-refusal .ensures) (c .if1 .taken)) in
-    (sym (ap steppedOf e), sym (ap (λ (r : Received). r .memory) e))
+    let a = c .before .before .before .before .before .args in
+    let e = received-bad (a .pair) (a .f .now) (a .memory .now) _ (heading-stops _ (a .f .now) _ (c .before .before .heading-refusal .ensures) (c .before .if1 .taken)) in
+    (c .refusing .ensures ∙ sym (ap steppedOf e), sym (ap (λ (r : Received). r .memory) e))
 
 frame-header-requires : tie.Need-frame-header-requires
 frame-header-requires c κs = search needs
@@ -74,8 +80,7 @@ returns-3 : tie.Need-returns-3
 returns-3 c =
     let a = c .before .before .before .before .before .before .before .before .before .before .before .before .args in
     let h = heading-stands _ (a .f .now) _ (c .before .before .before .before .before .before .before .before .before .heading-refusal .ensures) (c .before .before .before .before .before .before .before .before .if1 .left) in
-    let head = c .before .before .before .before .before .before .before .frame-header .ensures in
-    let w = awaited (a .pair) (a .f .now) h _ head (c .before .before .before .before .before .if2 .left) _ (c .before .before .distance .ensures) in
+    let w = awaited (a .pair) (a .f .now) h _ (c .before .before .before .before .before .before .before .frame-header .ensures) (c .before .before .before .before .before .if2 .left) _ (c .before .before .distance .ensures) in
     c .answer-old .ensures (a .memory .now) w (inl (c .before .if3 .taken))
 
 cast-is-marked : tie.Need-cast-is-marked
@@ -91,31 +96,50 @@ returns-4 : tie.Need-returns-4
 returns-4 c =
     let a = c .before .before .before .before .before .before .before .before .before .before .before .before .before .before .args in
     let h = heading-stands _ (a .f .now) _ (c .before .before .before .before .before .before .before .before .before .before .before .heading-refusal .ensures) (c .before .before .before .before .before .before .before .before .before .before .if1 .left) in
-    let head = c .before .before .before .before .before .before .before .before .before .frame-header .ensures in
-    let w = awaited (a .pair) (a .f .now) h _ head (c .before .before .before .before .before .before .before .if2 .left) _ (c .before .before .before .before .distance .ensures) in
+    let w = awaited (a .pair) (a .f .now) h _ (c .before .before .before .before .before .before .before .before .before .frame-header .ensures) (c .before .before .before .before .before .before .before .if2 .left) _ (c .before .before .before .before .distance .ensures) in
     c .answer-old2 .ensures (a .memory .now) w (inr (sym (c .before .before .is-marked .ensures) ∙ c .before .if4 .taken))
 
-take-in-requires : tie.Need-take-in-requires
-take-in-requires c κs =
-    let a = c .before .before .before .before .before .before .before .before .before .before .before .before .before .before .args in
-    heading-stands _ (a .f .now) _ (c .before .before .before .before .before .before .before .before .before .before .before .heading-refusal .ensures) (c .before .before .before .before .before .before .before .before .before .before .if1 .left) .most
+judge-closing-requires : tie.Need-judge-closing-requires
+judge-closing-requires c κs =
+    let a = c .before .before .before .before .before .before .before .before .before .before .before .before .before .before .before .args in
+    heading-stands _ (a .f .now) _ (c .before .before .before .before .before .before .before .before .before .before .before .before .heading-refusal .ensures) (c .before .before .before .before .before .before .before .before .before .before .before .if1 .left) .most
+
+take-closing-requires : tie.Need-take-closing-requires
+take-closing-requires c κs =
+    let a = c .before .before .before .before .before .before .before .before .before .before .before .before .before .before .before .before .before .before .before .args in
+    (heading-stands _ (a .f .now) _ (c .before .before .before .before .before .before .before .before .before .before .before .before .before .before .before .before .heading-refusal .ensures) (c .before .before .before .before .before .before .before .before .before .before .before .before .before .before .before .if1 .left) .most, c .before .before .before .judge-closing .ensures .0)
 
 same-length : tie.Need-same-length
 same-length c = search needs
 
 returns-5 : tie.Need-returns-5
 returns-5 c =
-    let a = c .before .before .before .before .before .before .before .before .before .before .before .before .before .before .before .before .before .args in
-    let h = heading-stands _ (a .f .now) _ (c .before .before .before .before .before .before .before .before .before .before .before .before .before .before .heading-refusal .ensures) (c .before .before .before .before .before .before .before .before .before .before .before .before .before .if1 .left) in
-    let head = c .before .before .before .before .before .before .before .before .before .before .before .before .frame-header .ensures in
-    let w = awaited (a .pair) (a .f .now) h _ head (c .before .before .before .before .before .before .before .before .before .before .if2 .left) _ (c .before .before .before .before .before .before .before .distance .ensures) in
-    c .before .before .take-in .ensures w (omega (arith, c .before .before .before .before .before .before .if3 .left)) (sym (c .before .before .before .before .before .is-marked .ensures) ∙ c .before .before .before .before .if4 .left)
+    let a = c .before .before .before .before .before .before .before .before .before .before .before .before .before .before .before .before .before .before .before .before .before .before .args in
+    let h = heading-stands _ (a .f .now) _ (c .before .before .before .before .before .before .before .before .before .before .before .before .before .before .before .before .before .before .before .heading-refusal .ensures) (c .before .before .before .before .before .before .before .before .before .before .before .before .before .before .before .before .before .before .if1 .left) in
+    let w = awaited (a .pair) (a .f .now) h _ (c .before .before .before .before .before .before .before .before .before .before .before .before .before .before .before .before .before .frame-header .ensures) (c .before .before .before .before .before .before .before .before .before .before .before .before .before .before .before .if2 .left) _ (c .before .before .before .before .before .before .before .before .before .before .before .before .distance .ensures) in
+    c .before .before .take-closing .ensures (c .before .before .before .before .before .before .judge-closing .ensures .1 (c .before .before .before .before .if5 .taken)) _ w (omega (arith, c .before .before .before .before .before .before .before .before .before .before .before .if3 .left)) (sym (c .before .before .before .before .before .before .before .before .before .before .is-marked .ensures) ∙ c .before .before .before .before .before .before .before .before .before .if4 .left)
+
+take-in-requires : tie.Need-take-in-requires
+take-in-requires c κs =
+    let a = c .before .before .before .before .before .before .before .before .before .before .before .before .before .before .before .before .before .before .before .args in
+    heading-stands _ (a .f .now) _ (c .before .before .before .before .before .before .before .before .before .before .before .before .before .before .before .before .heading-refusal .ensures) (c .before .before .before .before .before .before .before .before .before .before .before .before .before .before .before .if1 .left) .most
+
+same-length-2 : tie.Need-same-length-2
+same-length-2 c = search needs
+
+returns-6 : tie.Need-returns-6
+returns-6 c =
+    let a = c .before .before .before .before .before .before .before .before .before .before .before .before .before .before .before .before .before .before .before .before .before .before .args in
+    let h = heading-stands _ (a .f .now) _ (c .before .before .before .before .before .before .before .before .before .before .before .before .before .before .before .before .before .before .before .heading-refusal .ensures) (c .before .before .before .before .before .before .before .before .before .before .before .before .before .before .before .before .before .before .if1 .left) in
+    let w = awaited (a .pair) (a .f .now) h _ (c .before .before .before .before .before .before .before .before .before .before .before .before .before .before .before .before .before .frame-header .ensures) (c .before .before .before .before .before .before .before .before .before .before .before .before .before .before .before .if2 .left) _ (c .before .before .before .before .before .before .before .before .before .before .before .before .distance .ensures) in
+    c .before .before .take-in .ensures _ w (omega (arith, c .before .before .before .before .before .before .before .before .before .before .before .if3 .left)) (sym (c .before .before .before .before .before .before .before .before .before .before .is-marked .ensures) ∙ c .before .before .before .before .before .before .before .before .before .if4 .left)
 
 pub receive-spec : {M : Type 1} → statement M
 receive-spec =
     tie.close
     (tie.spec
     heading-refusal-requires
+    refusing-requires
     returns
     frame-header-requires
     returns-2
@@ -126,6 +150,10 @@ receive-spec =
     is-marked-requires
     answer-old-requires-2
     returns-4
-    take-in-requires
+    judge-closing-requires
+    take-closing-requires
     same-length
-    returns-5)
+    returns-5
+    take-in-requires
+    same-length-2
+    returns-6)

@@ -1,5 +1,6 @@
 -- `host::refuse`: the layout's refusal, or the message's.
 -- Assumes nothing.
+use mathlib.Core.Path.{_∙_}
 use borrow.Author.Tests.{eq-eqb, ne-eqb}
 use Rattle.host.specs.Passes.{refusedWith}
 use borrow.Author.Needs.{needs}
@@ -7,18 +8,27 @@ use Rattle.host.proofs.refuse.Statement.{statement}
 use Rattle.host.proofs.refuse.Tie as tie
 use Rattle.host.proofs.refuse.Reads as reads
 use Rattle.host.proofs.refuse.Lts as lts
+use Rattle.host.proofs.refusing.Reads as refusing-reads
 use Rattle.reader.proofs.refusal_of.Reads as refusal-of-reads
 
 refusal-of-requires : tie.Need-refusal-of-requires
 refusal-of-requires c κs = search needs
 
+refusing-requires : tie.Need-refusing-requires
+refusing-requires c κs = search needs
+
 returns : tie.Need-returns
 unfolding refusedWith
-returns c = rw (← c .before .refusal-of .ensures, ne-eqb _ _ (c .if1 .taken))
+returns c = c .refusing .ensures ∙ rw (← c .before .before .refusal-of .ensures, ne-eqb _ _ (c .before .if1 .taken))
+
+refusing-requires-2 : tie.Need-refusing-requires-2
+refusing-requires-2 c κs = search needs
 
 returns-2 : tie.Need-returns-2
 unfolding refusedWith
-returns-2 c = rw (← c .before .refusal-of .ensures, eq-eqb _ _ (c .if1 .left))
+returns-2 c = c .refusing2 .ensures ∙ rw (← c .before .before .refusal-of .ensures, eq-eqb _ _ (c .before .if1 .left))
 
 pub refuse-spec : {M : Type 1} → statement M
-refuse-spec = tie.close (tie.spec refusal-of-requires returns returns-2)
+refuse-spec =
+    tie.close
+    (tie.spec refusal-of-requires refusing-requires returns refusing-requires-2 returns-2)

@@ -20,9 +20,9 @@ refuse-requires : tie.Need-refuse-requires
 refuse-requires c κs = search needs
 
 returns : tie.Need-returns
-returns c w new clear =
-    let a = c .before .before .before .before .before .before .before .args in
-    let right = c .before .before .judge-all .ensures .0 in (
+returns c d w new clear =
+    let a = c .before .before .before .before .before .before .before .before .args in
+    let right = c .before .before .before .judge-all .ensures .0 in (
       c .refuse .ensures ∙ new-refused (a .pair) (a .f .now) (a .memory .now) _ _ w _ new clear right (c .before .if1 .taken),
       new-unchanged (a .pair) (a .f .now) (a .memory .now) _ _ w _ new clear right (c .before .if1 .taken),
     )
@@ -37,11 +37,11 @@ same-length : tie.Need-same-length
 same-length c = search needs
 
 returns-2 : tie.Need-returns-2
-returns-2 c w new clear =
-    let a = c .before .before .before .before .before .before .before .before .before .before .before .before .args in
-    let j = c .before .before .before .before .before .before .before .judge-all .ensures in
-    let n = new-taken (a .pair) (a .f .now) (a .memory .now) _ _ w _ new clear (j .0) (c .before .before .before .before .before .before .if1 .left) (j .1 .1) in
-    (rw (c .accept .ensures) (sym (ap steppedOf n)), c .before .before .before .write-all .ensures ∙ sym (ap (λ (r : Received). r .memory) n))
+returns-2 c d w new clear =
+    let a = c .before .before .before .before .before .before .before .before .before .before .before .before .before .before .before .args in
+    let j = c .before .before .before .before .before .before .before .before .before .before .judge-all .ensures in
+    let n = new-taken (a .pair) (a .f .now) (a .memory .now) _ _ w _ new clear (j .0) (c .before .before .before .before .before .before .before .before .if1 .left) (j .1 .1) in
+    (rw (c .accept .ensures) (sym (ap steppedOf n)), c .before .before .before .before .before .write-all .ensures ∙ sym (ap (λ (r : Received). r .memory) n))
 
 pub take-in-spec : {M : Type 1} → statement M
 take-in-spec =

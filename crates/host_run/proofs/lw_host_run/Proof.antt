@@ -17,10 +17,11 @@ use Rattle.host_run.proofs.bytes_of.Reads as bytes-of-reads
 use Rattle.std.proofs.num.wrapping_add_u64.Reads as wrapping-add-u64-reads
 
 abbrev Inv-loop : tie.InvT-loop
-Inv-loop frames size memory₀ n pair₀ bytes₀ k₀ memory pair bytes k = Running frames size n pair₀ memory₀ pair memory bytes k
+Inv-loop frames size memory₀ n step₀ bytes₀ k₀ memory step bytes k =
+    Running frames size n (step₀ .pair) memory₀ (step .pair) memory bytes k
 
 abbrev μ-loop : tie.MeasureT-loop
-μ-loop frames size memory₀ n pair₀ bytes₀ k₀ memory pair bytes k = n - k
+μ-loop frames size memory₀ n step₀ bytes₀ k₀ memory step bytes k = n - k
 
 returns : tie.Need-returns Inv-loop μ-loop
 returns c =
@@ -50,7 +51,7 @@ part-receive-start : tie.Need-part-receive-start Inv-loop μ-loop
 part-receive-start c = omega arith
 
 part-receive-end : tie.Need-part-receive-end Inv-loop μ-loop
-part-receive-end c = omega (arith, frame-within (c .before .loop .inv) (c .loop-test .taken))
+part-receive-end c = omega (arith, frame-within (c .before .before .loop .inv) (c .before .loop-test .taken))
 
 receive-requires : tie.Need-receive-requires Inv-loop μ-loop
 receive-requires c κs = search needs
@@ -70,8 +71,8 @@ loop-less c = omega (arith, c .before .before .before .before .before .before .b
 loop-again : tie.Need-loop-again Inv-loop μ-loop
 loop-again c =
     let a = c .before .before .before .before .before .before .before .before .before .before .before .before .before .before .before .args in
-    running-turn (c .before .before .before .before .before .before .before .before .before .loop .inv) _ _ _ _ (c .before .before .before .before .before .before .before .before .loop-test .taken) (c .before .before .before .before .before .receive .kept .1 .1 .0)
-    (rw add-sub-cancel-left at (c .before .before .before .before .before .receive .ensures .0)) (rw add-sub-cancel-left at (c .before .before .before .before .before .receive .ensures .1))
+    running-turn (c .before .before .before .before .before .before .before .before .before .loop .inv) _ _ _ _ (c .before .before .before .before .before .before .before .before .loop-test .taken) (c .before .before .before .before .receive .kept .1 .1 .0)
+    (rw add-sub-cancel-left at (c .before .before .before .before .receive .ensures .0)) (rw add-sub-cancel-left at (c .before .before .before .before .receive .ensures .1))
     (c .before .bytes-of .ensures) (c .wrapping-add-u64 .ensures)
 
 same-length : tie.Need-same-length Inv-loop μ-loop
