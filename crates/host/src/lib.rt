@@ -272,8 +272,24 @@ struct Judged {
     pub due: [u64; 6],
 }
 
-fn make_judged(
-    refusal: u8,
+// Message number messages is refused.
+fn stopped(refusal: u8, messages: u32, lowest: TransNo, closed: u32, table: [Open; 32]) -> Judged
+    ensures { λ r. ⌜ (r .refusal ≡ refusal) × (r .messages ≡ messages) ⌝ }
+{
+    Judged {
+        refusal,
+        messages,
+        bytes: 0,
+        completed: 0,
+        lowest,
+        closed,
+        table,
+        due: [0u64; 6],
+    }
+}
+
+// No message is refused.
+fn passed(
     messages: u32,
     bytes: u32,
     completed: u32,
@@ -283,7 +299,7 @@ fn make_judged(
     due: [u64; 6],
 ) -> Judged
     ensures { λ r. ⌜ r ≡ record {
-      refusal = refusal;
+      refusal = 0;
       messages = messages;
       bytes = bytes;
       completed = completed;
@@ -294,7 +310,7 @@ fn make_judged(
     } ⌝ }
 {
     Judged {
-        refusal,
+        refusal: 0,
         messages,
         bytes,
         completed,
@@ -343,31 +359,13 @@ fn judge_all(low: TransNo, shut: u32, places: [Open; 32], f: &[u8], size: usize)
         let found = reader::message_at(f, at);
         match found {
             Found::PastEnd => {
-                return make_judged(
-                    refusal::PAST_END,
-                    messages,
-                    bytes,
-                    completed,
-                    lowest,
-                    closed,
-                    table,
-                    due,
-                );
+                return stopped(refusal::PAST_END, messages, lowest, closed, table);
             }
             Found::Whole(h, len, more, next) => {
                 let s = place_of(h);
                 let v = transactions::judge(lowest, closed, table[s], h, len, size);
                 if v.refusal != 0 {
-                    return make_judged(
-                        v.refusal,
-                        messages,
-                        bytes,
-                        completed,
-                        lowest,
-                        closed,
-                        table,
-                        due,
-                    );
+                    return stopped(v.refusal, messages, lowest, closed, table);
                 }
                 let slot = v.slot;
                 let moved = v.lowest;
@@ -380,7 +378,7 @@ fn judge_all(low: TransNo, shut: u32, places: [Open; 32], f: &[u8], size: usize)
                 bytes += len as u32;
                 completed += one_if(v.done);
                 if !more {
-                    return make_judged(0, messages, bytes, completed, lowest, closed, table, due);
+                    return passed(messages, bytes, completed, lowest, closed, table, due);
                 }
                 at = next;
             }

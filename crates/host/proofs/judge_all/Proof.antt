@@ -1,6 +1,7 @@
 -- `host::judge_all` judges message by message, as the definition does.
 -- Assumes nothing.
 use mathlib.Core.Path.{_≡_, refl, sym, ap, _∙_}
+use mathlib.Core.Logic.{_≢_}
 use Prim.Native.Nat.{ℕ, suc, _+_, _-_, _/_, _%_, _≤_}
 use native.Mathlib.Numerals.{add-one}
 use native.Mathlib.Omega.{arith}
@@ -32,7 +33,8 @@ use Rattle.host.proofs.judge_all.Statement.{statement}
 use Rattle.host.proofs.judge_all.Tie as tie
 use Rattle.host.proofs.judge_all.Reads as reads
 use Rattle.host.proofs.judge_all.Lts as lts
-use Rattle.host.proofs.make_judged.Reads as make-judged-reads
+use Rattle.host.proofs.passed.Reads as passed-reads
+use Rattle.host.proofs.stopped.Reads as stopped-reads
 use Rattle.host.proofs.noted.Reads as noted-reads
 use Rattle.host.proofs.one_if.Reads as one-if-reads
 use Rattle.host.proofs.place_of.Reads as place-of-reads
@@ -63,13 +65,15 @@ message-at-requires c κs = search needs
 enum-told : tie.Need-enum-told Inv-loop μ-loop
 enum-told c = search needs
 
-make-judged-requires : tie.Need-make-judged-requires Inv-loop μ-loop
-make-judged-requires c κs = search needs
+stopped-requires : tie.Need-stopped-requires Inv-loop μ-loop
+stopped-requires c κs = search needs
 
 returns : tie.Need-returns Inv-loop μ-loop
 returns c =
-    rw (c .make-judged .ensures)
-    (λ ms e. absurd (omega (arith, still-inside (c .before .before .before .before .loop .inv .1 ms e), is-past _ _ (sym (c .before .before .before .message-at .ensures) ∙ c .before .enum-told .given .1))), (omega (arith, c .before .before .before .before .loop .inv .0), λ z. absurd (omega (arith, z))))
+    let past = is-past _ _ (sym (c .before .before .before .message-at .ensures) ∙ c .before .enum-told .given .1) in (
+      λ ms e. absurd (omega (arith, still-inside (c .before .before .before .before .loop .inv .1 ms e), past)),
+      (omega (arith, c .before .before .before .before .loop .inv .0, c .stopped .ensures .1), λ z. absurd (omega (arith, z, c .stopped .ensures .0))),
+    )
 
 enum-known-found : tie.Need-enum-known-found Inv-loop μ-loop
 enum-known-found c = search needs
@@ -86,15 +90,17 @@ array-copy-out-judge c = omega (arith, c .place-of .ensures .1, c .before .befor
 judge-requires : tie.Need-judge-requires Inv-loop μ-loop
 judge-requires c κs = search needs
 
-make-judged-requires-2 : tie.Need-make-judged-requires-2 Inv-loop μ-loop
-make-judged-requires-2 c κs = search needs
+stopped-requires-2 : tie.Need-stopped-requires-2 Inv-loop μ-loop
+stopped-requires-2 c κs = search needs
 
 returns-2 : tie.Need-returns-2 Inv-loop μ-loop
 returns-2 c =
     let w = is-whole (sym (c .before .before .before .before .before .before .before .before .before .message-at .ensures) ∙ c .before .before .before .before .before .before .before .found .given .1) in
     let v = c .before .before .before .judge .ensures ∙ verdict-is w _ _ _ (c .before .before .before .before .before .place-of .ensures .0) in
-    rw (c .make-judged2 .ensures)
-    (λ ms e. stopped-right (c .before .before .before .before .before .before .before .before .before .before .loop .inv .1 ms e) _ (c .before .if1 .taken) (ap (λ (v : Verdict). v .refusal) v) refl, (omega (arith, c .before .before .before .before .before .before .before .before .before .before .loop .inv .0), λ z. absurd (c .before .if1 .taken z)))
+    let ne : c .stopped2 .result .refusal ≢ 0 = λ z. c .before .if1 .taken (sym (c .stopped2 .ensures .0) ∙ z) in (
+      λ ms e. stopped-right (c .before .before .before .before .before .before .before .before .before .before .loop .inv .1 ms e) _ ne (c .stopped2 .ensures .0 ∙ ap (λ (v : Verdict). v .refusal) v) (c .stopped2 .ensures .1),
+      (omega (arith, c .before .before .before .before .before .before .before .before .before .before .loop .inv .0, c .stopped2 .ensures .1), λ z. absurd (ne z)),
+    )
 
 mul-table : tie.Need-mul-table Inv-loop μ-loop
 mul-table c = omega (arith, c .before .before .before .before .before .before .place-of .ensures .1)
@@ -143,8 +149,8 @@ add-completed : tie.Need-add-completed Inv-loop μ-loop
 add-completed c =
     omega (arith, c .before .before .before .before .before .before .before .before .before .before .before .before .before .loop .inv .0, c .one-if .ensures .1)
 
-make-judged-requires-3 : tie.Need-make-judged-requires-3 Inv-loop μ-loop
-make-judged-requires-3 c κs = search needs
+passed-requires : tie.Need-passed-requires Inv-loop μ-loop
+passed-requires c κs = search needs
 
 returns-3 : tie.Need-returns-3 Inv-loop μ-loop
 returns-3 c =
@@ -153,7 +159,7 @@ returns-3 c =
     let v = c .before .before .before .before .before .before .before .before .judge .ensures ∙ verdict-is w _ _ _ (c .before .before .before .before .before .before .before .before .before .before .place-of .ensures .0) in
     let done = ap (λ (v : Verdict). v .done) v in
     let fits = in-words (k .inv .0) w in
-    rw (c .make-judged3 .ensures) (
+    rw (c .passed .ensures) (
       λ ms e. ended-right (k .inv .1 ms e) _ (sym (ap (λ (v : Verdict). v .refusal) v) ∙ c .before .before .before .before .before .before .if1 .left)
           (sym (w .more-is) ∙ not-true _ (c .before .if2 .taken)) refl (after-is w _ _ _ _ v (c .before .before .before .before .before .before .before .before .before .before .place-of .ensures .0)) (add-one (k .messages))
           (ap (λ (n : ℕ). k .bytes + n) (sym (w .bytes-are))) (one-is (k .completed) _ _ _ (c .before .before .one-if .ensures .0) done)
@@ -190,14 +196,14 @@ judge-all-spec =
     loop-holds
     message-at-requires
     enum-told
-    make-judged-requires
+    stopped-requires
     returns
     enum-known-found
     place-of-requires
     mul-judge
     array-copy-out-judge
     judge-requires
-    make-judged-requires-2
+    stopped-requires-2
     returns-2
     mul-table
     array-set-from-table
@@ -212,7 +218,7 @@ judge-all-spec =
     add-bytes
     one-if-requires
     add-completed
-    make-judged-requires-3
+    passed-requires
     returns-3
     loop-less
     loop-again)
