@@ -1,7 +1,14 @@
 -- `transactions::terms_refusal`: the tests in the definition's order.
 -- Assumes nothing.
+use mathlib.Core.Path.{_≡_}
+use mathlib.Core.Bool.{Bool, false, cond, not, _&&_}
+use Prim.Native.Nat.{ℕ, _<_}
 use borrow.Author.Tests.{le-leb, lt-leb, lt-ltb, le-ltb, eq-eqb, ne-eqb}
-use Rattle.transactions.specs.Transactions.{termsRefusal}
+use lib.Dec.{eqb, ltb}
+use Rattle.marks.specs.Marks.{mark}
+use Rattle.wire.specs.declared.MessageHeader.{MessageHeader}
+use Rattle.transactions.specs.declared.Open.{Open}
+use Rattle.transactions.specs.Transactions.{agrees, termsRefusal}
 use borrow.Author.Needs.{needs}
 use Rattle.transactions.proofs.terms_refusal.Statement.{statement}
 use Rattle.transactions.proofs.terms_refusal.Tie as tie
@@ -9,6 +16,13 @@ use Rattle.transactions.proofs.terms_refusal.Reads as reads
 use Rattle.transactions.proofs.terms_refusal.Lts as lts
 use Rattle.marks.proofs.word32.is_marked.Reads as is-marked-reads
 use Rattle.transactions.proofs.has_same_terms.Reads as has-same-terms-reads
+
+-- neither 7 nor 8 nor 9: the test for 10 is left
+up-to-ten : (d closed : ℕ) (o : Open) (h : MessageHeader) (len : ℕ) (marked same : Bool) → d < 32 → marked ≡ mark closed d
+    → marked ≡ false → same ≡ agrees o h → not same ≡ false
+    → termsRefusal d closed o h len ≡ cond (eqb (h .count) 0 && ltb 0 len) 10 0
+unfolding termsRefusal
+up-to-ten d closed o h len marked same l m-is m s-is s = rw (lt-leb _ _ l, ← m-is, m, ← s-is, s)
 
 returns : tie.Need-returns
 unfolding termsRefusal
@@ -36,40 +50,28 @@ returns-3 c =
     )
 
 returns-4 : tie.Need-returns-4
-unfolding termsRefusal
 returns-4 c =
     rw (
-      lt-leb _ _ (c .before .before .before .before .before .before .before .if1 .left),
-      ← c .before .before .before .before .before .before .is-marked .ensures,
-      c .before .before .before .before .before .if2 .left,
-      ← c .before .before .before .before .has-same-terms .ensures,
-      c .before .before .before .if3 .left,
+      up-to-ten _ _ _ _ (c .before .before .before .before .before .before .before .before .args .len) _ _ (c .before .before .before .before .before .before .before .if1 .left) (c .before .before .before .before .before .before .is-marked .ensures) (c .before .before .before .before .before .if2 .left)
+          (c .before .before .before .before .has-same-terms .ensures) (c .before .before .before .if3 .left),
       eq-eqb _ _ (c .before .if4 .taken),
       lt-ltb _ _ (c .if5 .taken),
     )
 
 returns-5 : tie.Need-returns-5
-unfolding termsRefusal
 returns-5 c =
     rw (
-      lt-leb _ _ (c .before .before .before .before .before .before .before .if1 .left),
-      ← c .before .before .before .before .before .before .is-marked .ensures,
-      c .before .before .before .before .before .if2 .left,
-      ← c .before .before .before .before .has-same-terms .ensures,
-      c .before .before .before .if3 .left,
+      up-to-ten _ _ _ _ (c .before .before .before .before .before .before .before .before .args .len) _ _ (c .before .before .before .before .before .before .before .if1 .left) (c .before .before .before .before .before .before .is-marked .ensures) (c .before .before .before .before .before .if2 .left)
+          (c .before .before .before .before .has-same-terms .ensures) (c .before .before .before .if3 .left),
       eq-eqb _ _ (c .before .if4 .taken),
       le-ltb _ _ (c .if5 .left),
     )
 
 returns-6 : tie.Need-returns-6
-unfolding termsRefusal
 returns-6 c =
     rw (
-      lt-leb _ _ (c .before .before .before .before .before .before .if1 .left),
-      ← c .before .before .before .before .before .is-marked .ensures,
-      c .before .before .before .before .if2 .left,
-      ← c .before .before .before .has-same-terms .ensures,
-      c .before .before .if3 .left,
+      up-to-ten _ _ _ _ (c .before .before .before .before .before .before .before .args .len) _ _ (c .before .before .before .before .before .before .if1 .left) (c .before .before .before .before .before .is-marked .ensures) (c .before .before .before .before .if2 .left)
+          (c .before .before .before .has-same-terms .ensures) (c .before .before .if3 .left),
       ne-eqb _ _ (c .if4 .left),
     )
 
