@@ -6,6 +6,7 @@ use mathlib.Core.List.{List, [], _∷_, _++_, append-nil}
 use mathlib.Core.Logic.{_≢_}
 use mathlib.Core.Option.{Option, none, some}
 use Prim.Native.Nat.{ℕ, suc, _+_, _*_, _%_, _≤_, _<_}
+use native.Mathlib.Nat.{mod-eq-of-lt}
 use native.Mathlib.Numerals.{add-one}
 use native.Mathlib.Decide.{decLe}
 use native.Mathlib.Omega.{arith}
@@ -15,7 +16,9 @@ use lib.ListN.{length, drop, getD, set, length-set, length-drop, drop-of-length-
 use lib.Seq.{drop-cons}
 use Rattle.hexline.specs.Line.{digit, upToNewline, hasNewline}
 use Rattle.hexline.specs.Taking.{State, state, withByte, withDigit, withValue, after, takenFrom, frameAfter}
+use Rattle.hexline.specs.Walking.{Walked}
 use Rattle.hexline.specs.declared.Line.{Line}
+use Rattle.hexline.proofs.Digits.{not-newline}
 
 -- ---- what one character does
 
@@ -92,28 +95,29 @@ module _ (line : Line) (frame : List ℕ) (from at : ℕ) (a b : List ℕ) (h : 
       let e = sym (in-two-pieces (record { line = line; frame = frame }) a b h) in
       (ap (λ (s : State). s .line) e, ap (λ (s : State). s .frame) e, sym (ends-later b a h))
 
--- ---- the walk over a piece: what is left to do, from the state as it is
+-- ---- the walk over a piece
 
-pub record Walked (frame₀ piece : List ℕ) (from len₀ half₀ : ℕ) (odd₀ bad₀ : Bool) (frame : List ℕ) (len half : ℕ)
-    (odd bad : Bool) (at : ℕ) : Type 0 where
-  pub size : length frame ≡ length frame₀
-  pub is : after (state len₀ half₀ odd₀ bad₀ frame₀) (upToNewline (drop from piece))
-      ≡ after (state len half odd bad frame) (upToNewline (drop at piece))
-  pub at-is : from + length (upToNewline (drop from piece)) ≡ at + length (upToNewline (drop at piece))
-  pub ended-is : hasNewline (drop from piece) ≡ hasNewline (drop at piece)
+pub walked-start : (s : State) (piece : List ℕ) (from : ℕ) → Walked s piece from s from
+walked-start s piece from = record { size = refl; is = refl; at-is = refl; ended-is = refl }
 
-pub walked-start : (frame piece : List ℕ) (from len half : ℕ) (odd bad : Bool)
-    → Walked frame piece from len half odd bad frame len half odd bad from
-walked-start frame piece from len half odd bad = record { size = refl; is = refl; at-is = refl; ended-is = refl }
+-- two walks, the second from where the first has come to
+pub walked-on : {a b c : State} {piece : List ℕ} {i j k : ℕ} → Walked a piece i b j → Walked b piece j c k
+    → Walked a piece i c k
+walked-on v w =
+    record {
+      size = w .size ∙ v .size;
+      is = v .is ∙ w .is;
+      at-is = v .at-is ∙ w .at-is;
+      ended-is = v .ended-is ∙ w .ended-is;
+    }
 
-module _ {frame₀ piece : List ℕ} {from len₀ half₀ : ℕ} {odd₀ bad₀ : Bool} {frame : List ℕ} {len half : ℕ}
-    {odd bad : Bool} {at : ℕ} (w : Walked frame₀ piece from len₀ half₀ odd₀ bad₀ frame len half odd bad at) where
-  pub walked-turn : (frame′ : List ℕ) (len′ half′ : ℕ) (odd′ bad′ : Bool) → at < length piece → getD piece at 0 ≢ 10
-      → withValue (digit (getD piece at 0)) (state len half odd bad frame) ≡ state len′ half′ odd′ bad′ frame′
-      → length frame′ ≡ length frame
-      → Walked frame₀ piece from len₀ half₀ odd₀ bad₀ frame′ len′ half′ odd′ bad′ (at + 1)
+module _ {begun s : State} {piece : List ℕ} {from at : ℕ} (w : Walked begun piece from s at) where
+  pub walked-turn : (s′ : State) → at < length piece → getD piece at 0 ≢ 10
+      → withValue (digit (getD piece at 0)) s ≡ s′
+      → length (s′ .frame) ≡ length (s .frame)
+      → Walked begun piece from s′ (at + 1)
   unfolding upToNewline hasNewline after
-  walked-turn frame′ len′ half′ odd′ bad′ h n e l =
+  walked-turn s′ h n e l =
       let d : drop at piece ≡ getD piece at 0 ∷ drop (at + 1) piece = rw add-one (drop-cons piece at 0 h) in
       let t : eqb (getD piece at 0) 10 ≡ false = ne-eqb (getD piece at 0) 10 n in
       let up : upToNewline (drop at piece) ≡ getD piece at 0 ∷ upToNewline (drop (at + 1) piece) = rw (d, t) in
@@ -121,24 +125,15 @@ module _ {frame₀ piece : List ℕ} {from len₀ half₀ : ℕ} {odd₀ bad₀ 
       let more : length (upToNewline (drop at piece)) ≡ suc (length rest) = ap length up in
       record {
         size = l ∙ w .size;
-        is = w .is ∙ rw up (ap (λ (s : State). after s (upToNewline (drop (at + 1) piece))) e);
+        is = w .is ∙ rw up (ap (λ (x : State). after x (upToNewline (drop (at + 1) piece))) e);
         at-is = omega (arith, w .at-is);
         ended-is = w .ended-is ∙ rw (d, t);
       }
 
-  pub walked-kept : (frame′ : List ℕ) (d : ℕ) → frame′ ≡ set frame len (half % 16 * 16 + d) → at < length piece
-      → getD piece at 0 ≢ 10 → digit (getD piece at 0) ≡ some d → odd ≡ true → len < 9001
-      → Walked frame₀ piece from len₀ half₀ odd₀ bad₀ frame′ (len + 1) half false bad (at + 1)
-  walked-kept frame′ d q h n e o l =
-      rw q
-      (walked-turn (set frame len (half % 16 * 16 + d)) (len + 1) half false bad h n
-      (on-low len half odd bad frame (getD piece at 0) d e o l)
-      (length-set frame len (half % 16 * 16 + d)))
-
   pub walked-newline : at < length piece → getD piece at 0 ≡ 10
-      → (record { line = record { len = len; half = half; odd = odd; bad = bad }; at = at + 1; ended = true }
-      ≡ takenFrom (state len₀ half₀ odd₀ bad₀ frame₀ .line) frame₀ from (drop from piece))
-      × (frame ≡ frameAfter (state len₀ half₀ odd₀ bad₀ frame₀ .line) frame₀ (drop from piece))
+      → (record { line = s .line; at = at + 1; ended = true }
+      ≡ takenFrom (begun .line) (begun .frame) from (drop from piece))
+      × (s .frame ≡ frameAfter (begun .line) (begun .frame) (drop from piece))
   unfolding upToNewline hasNewline after takenFrom frameAfter
   walked-newline h e =
       let d : drop at piece ≡ getD piece at 0 ∷ drop (at + 1) piece = rw add-one (drop-cons piece at 0 h) in
@@ -147,14 +142,13 @@ module _ {frame₀ piece : List ℕ} {from len₀ half₀ : ℕ} {odd₀ bad₀ 
       let has : hasNewline (drop at piece) ≡ true = rw (d, t) in
       let none-left : length (upToNewline (drop at piece)) ≡ 0 = ap length up in
       let a : from + length (upToNewline (drop from piece)) + 1 ≡ at + 1 = omega (arith, w .at-is) in
-      let begun = after (state len₀ half₀ odd₀ bad₀ frame₀) (upToNewline (drop from piece)) in
-      let whole : begun ≡ state len half odd bad frame = w .is ∙ rw up in
-      (rw (whole, w .ended-is, has, a), sym (ap (λ (s : State). s .frame) whole))
+      let whole : after begun (upToNewline (drop from piece)) ≡ s = w .is ∙ rw up in
+      (rw (whole, w .ended-is, has, a), sym (ap (λ (x : State). x .frame) whole))
 
   pub walked-end : length piece ≤ at
-      → (record { line = record { len = len; half = half; odd = odd; bad = bad }; at = at; ended = false }
-      ≡ takenFrom (state len₀ half₀ odd₀ bad₀ frame₀ .line) frame₀ from (drop from piece))
-      × (frame ≡ frameAfter (state len₀ half₀ odd₀ bad₀ frame₀ .line) frame₀ (drop from piece))
+      → (record { line = s .line; at = at; ended = false }
+      ≡ takenFrom (begun .line) (begun .frame) from (drop from piece))
+      × (s .frame ≡ frameAfter (begun .line) (begun .frame) (drop from piece))
   unfolding upToNewline hasNewline after takenFrom frameAfter
   walked-end h =
       let d : drop at piece ≡ [] = drop-of-length-le piece h in
@@ -162,9 +156,34 @@ module _ {frame₀ piece : List ℕ} {from len₀ half₀ : ℕ} {odd₀ bad₀ 
       let has : hasNewline (drop at piece) ≡ false = rw d in
       let none-left : length (upToNewline (drop at piece)) ≡ 0 = ap length up in
       let a : from + length (upToNewline (drop from piece)) + 0 ≡ at = omega (arith, w .at-is) in
-      let begun = after (state len₀ half₀ odd₀ bad₀ frame₀) (upToNewline (drop from piece)) in
-      let whole : begun ≡ state len half odd bad frame = w .is ∙ rw up in
-      (rw (whole, w .ended-is, has, a), sym (ap (λ (s : State). s .frame) whole))
+      let whole : after begun (upToNewline (drop from piece)) ≡ s = w .is ∙ rw up in
+      (rw (whole, w .ended-is, has, a), sym (ap (λ (x : State). x .frame) whole))
+
+-- a digit that completes a byte, and a pair of digits
+module _ {begun : State} {piece : List ℕ} {from len half : ℕ} {odd bad : Bool} {frame : List ℕ} {at : ℕ}
+    (w : Walked begun piece from (state len half odd bad frame) at) where
+  pub walked-kept : (frame′ : List ℕ) (d : ℕ) → frame′ ≡ set frame len (half % 16 * 16 + d) → at < length piece
+      → getD piece at 0 ≢ 10 → digit (getD piece at 0) ≡ some d → odd ≡ true → len < 9001
+      → Walked begun piece from (state (len + 1) half false bad frame′) (at + 1)
+  walked-kept frame′ d q h n e o l =
+      rw q
+      (walked-turn w (state (len + 1) half false bad (set frame len (half % 16 * 16 + d))) h n
+      (on-low len half odd bad frame (getD piece at 0) d e o l)
+      (length-set frame len (half % 16 * 16 + d)))
+
+module _ {begun : State} {piece : List ℕ} {from len half : ℕ} {bad : Bool} {frame : List ℕ} {at : ℕ}
+    (w : Walked begun piece from (state len half false bad frame) at) where
+  pub walked-pair : (a b : ℕ) → at + 1 < length piece → digit (getD piece at 0) ≡ some a
+      → digit (getD piece (at + 1) 0) ≡ some b → a < 16 → len < 9001
+      → Walked begun piece from (state (len + 1) a false bad (set frame len (a * 16 + b))) (at + 2)
+  walked-pair a b h ea eb l room =
+      let high : Walked begun piece from (state len a true bad frame) (at + 1) =
+      walked-turn w (state len a true bad frame) (omega arith) (not-newline _ _ ea)
+      (on-high len half false bad frame (getD piece at 0) a ea refl) refl in
+      let m : a % 16 ≡ a = mod-eq-of-lt l in
+      let two : at + 1 + 1 ≡ at + 2 = omega arith in
+      rw (← two)
+      (walked-kept high (set frame len (a * 16 + b)) b (rw m) h (not-newline _ _ eb) eb refl room)
 
 -- ---- what a caller knows of the answer without looking at the characters
 

@@ -1,3 +1,4 @@
 pub mod Line
 pub mod Taking
+pub mod Walking
 pub mod Text

@@ -2,10 +2,10 @@
 // put into a lent buffer, with numbers in decimal. Any characters and any lengths get an answer.
 ghost use mathlib.Core.Path.{_≡_};
 ghost use mathlib.Core.List.{_∷_};
-ghost use Prim.Native.Nat.{_+_, _≤_, _<_};
+ghost use Prim.Native.Nat.{_+_, _-_, _*_, _≤_, min};
 ghost use lib.ListN.{length, take, drop, set};
 ghost use lib.Seq.{sets};
-ghost use Rattle.hexline.specs.Line.{within, digit};
+ghost use Rattle.hexline.specs.Line.{digit};
 ghost use Rattle.hexline.specs.Taking.{
   start,
   valueOr16,
@@ -15,6 +15,7 @@ ghost use Rattle.hexline.specs.Taking.{
   refusedLine,
   emptyLine,
 };
+ghost use Rattle.hexline.specs.Walking.{digitValues, stateOf, Walked};
 ghost use Rattle.hexline.specs.Text.{decimal, lineText, withLine, lineEnd};
 
 // Bytes of a line that are kept: one more than a frame can have, so that a longer line still reads as too long.
@@ -73,30 +74,37 @@ impl Line {
     }
 }
 
-// Whether a character lies in a range, both ends included.
-fn is_within(low: u8, high: u8, c: u8) -> bool
-    ensures { λ r. ⌜ r ≡ within low high c ⌝ }
+// The value of each character as a digit, and 16 where it is none, sixteen characters to a row: 0 to 9 are in the fourth
+// row, A to F in the fifth, a to f in the seventh. A loop calls it before its first turn, since a call copies the table.
+fn digit_values() -> [u8; 256]
+    ensures { λ r. ⌜ r ≡ digitValues ⌝ }
 {
-    low <= c && c <= high
+    *b"\
+        \x10\x10\x10\x10\x10\x10\x10\x10\x10\x10\x10\x10\x10\x10\x10\x10\
+        \x10\x10\x10\x10\x10\x10\x10\x10\x10\x10\x10\x10\x10\x10\x10\x10\
+        \x10\x10\x10\x10\x10\x10\x10\x10\x10\x10\x10\x10\x10\x10\x10\x10\
+        \x00\x01\x02\x03\x04\x05\x06\x07\x08\x09\x10\x10\x10\x10\x10\x10\
+        \x10\x0A\x0B\x0C\x0D\x0E\x0F\x10\x10\x10\x10\x10\x10\x10\x10\x10\
+        \x10\x10\x10\x10\x10\x10\x10\x10\x10\x10\x10\x10\x10\x10\x10\x10\
+        \x10\x0a\x0b\x0c\x0d\x0e\x0f\x10\x10\x10\x10\x10\x10\x10\x10\x10\
+        \x10\x10\x10\x10\x10\x10\x10\x10\x10\x10\x10\x10\x10\x10\x10\x10\
+        \x10\x10\x10\x10\x10\x10\x10\x10\x10\x10\x10\x10\x10\x10\x10\x10\
+        \x10\x10\x10\x10\x10\x10\x10\x10\x10\x10\x10\x10\x10\x10\x10\x10\
+        \x10\x10\x10\x10\x10\x10\x10\x10\x10\x10\x10\x10\x10\x10\x10\x10\
+        \x10\x10\x10\x10\x10\x10\x10\x10\x10\x10\x10\x10\x10\x10\x10\x10\
+        \x10\x10\x10\x10\x10\x10\x10\x10\x10\x10\x10\x10\x10\x10\x10\x10\
+        \x10\x10\x10\x10\x10\x10\x10\x10\x10\x10\x10\x10\x10\x10\x10\x10\
+        \x10\x10\x10\x10\x10\x10\x10\x10\x10\x10\x10\x10\x10\x10\x10\x10\
+        \x10\x10\x10\x10\x10\x10\x10\x10\x10\x10\x10\x10\x10\x10\x10\x10\
+        "
 }
 
-// A digit's value, and 16 for any other character. The low four bits of 0 to 9 are the value, those of a letter are the
-// value less 9, and only letters lie at 64 or above. As one expression gives the value in all three ranges, there is no
-// jump for each range, which a processor would guess wrong every other time.
-fn value_of(c: u8) -> u8
+// A digit's value, and 16 for any other character.
+fn value_in(values: &[u8; 256], c: u8) -> u8
+    requires { ⌜ now values ≡ digitValues ⌝ }
     ensures { λ r. ⌜ r ≡ valueOr16 (digit c) ⌝ }
 {
-    let v = c % 16 + c / 64 * 9;
-    if is_within(48, 57, c) {
-        return v;
-    }
-    if is_within(97, 102, c) {
-        return v;
-    }
-    if is_within(65, 70, c) {
-        return v;
-    }
-    16
+    values[c as usize]
 }
 
 // Stores a byte, and nothing past the end.
@@ -125,24 +133,83 @@ fn answer(len: usize, half: u8, odd: bool, bad: bool, at: usize, ended: bool) ->
     }
 }
 
+// The smaller of two numbers.
+fn least(a: usize, b: usize) -> usize
+    ensures { λ r. ⌜ r ≡ min a b ⌝ }
+{
+    if a < b {
+        return a;
+    }
+    b
+}
+
+// The count of bytes that a line can come to by pairs of digits alone: all of them are kept, a frame of size bytes has
+// room for them, and the piece has two characters, from an index to its end, for each that is yet to come.
+fn pairs_until(len: usize, size: usize, from: usize, end: usize) -> usize
+    ensures { λ r. ⌜ (r ≤ 9001) × (r ≤ size) × (2 * (r - len) ≤ end - from) ⌝ }
+{
+    let most = least(KEPT, size);
+    if most <= len {
+        return 0;
+    }
+    if end <= from {
+        return 0;
+    }
+    len + least(most - len, (end - from) / 2)
+}
+
+// Takes in pairs of digits, a byte each, for as long as there are any that are kept, and leaves the rest to take_in. Most
+// of a replay's time goes here: a turn tests no index, and looks both digits up before it tests either, which the
+// compiler makes into one jump.
+fn take_pairs(line: Line, frame: &mut [u8], piece: &[u8], from: usize) -> Taken
+    ensures { λ r. ⌜ Walked (stateOf line (now (frame .entry))) (now (piece .entry)) from (stateOf (r .line) (now (frame .exit))) (r .at) ⌝ }
+{
+    let mut len = line.len;
+    let mut half = line.half;
+    let mut at = from;
+    if line.odd {
+        return answer(len, half, true, line.bad, at, false);
+    }
+    let values = digit_values();
+    let until = pairs_until(len, frame.len(), from, piece.len());
+    while len < until {
+        let high = value_in(&values, piece[at]);
+        let low = value_in(&values, piece[at + 1]);
+        if 15 < high {
+            break;
+        }
+        if 15 < low {
+            break;
+        }
+        frame[len] = high * 16 + low;
+        half = high;
+        len += 1;
+        at += 2;
+    }
+    answer(len, half, false, line.bad, at, false)
+}
+
 // Takes in the characters of piece from an index on, up to the end of the line, newline included, or of the piece. The
 // bytes that they spell go into frame. A frame shorter than KEPT keeps fewer of them, and they are counted all the same.
 pub fn take_in(line: Line, frame: &mut [u8], piece: &[u8], from: usize) -> Taken
     ensures { λ r. ⌜ r ≡ takenFrom line (now (frame .entry)) from (drop from (now (piece .entry))) ⌝ }
     ensures { λ _. ⌜ now (frame .exit) ≡ frameAfter line (now (frame .entry)) (drop from (now (piece .entry))) ⌝ }
 {
-    let mut len = line.len;
-    let mut half = line.half;
-    let mut odd = line.odd;
-    let mut bad = line.bad;
-    let mut at = from;
+    let front = take_pairs(line, frame, piece, from);
+    let begun = front.line;
+    let mut len = begun.len;
+    let mut half = begun.half;
+    let mut odd = begun.odd;
+    let mut bad = begun.bad;
+    let mut at = front.at;
+    let values = digit_values();
     while at < piece.len() {
         let c = piece[at];
         at += 1;
         if c == 10 {
             return answer(len, half, odd, bad, at, true);
         }
-        let d = value_of(c);
+        let d = value_in(&values, c);
         if 15 < d {
             bad = true;
             continue;

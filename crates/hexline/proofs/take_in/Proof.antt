@@ -1,15 +1,17 @@
--- `hexline::take_in` goes from character to character as the definition does.
+-- `hexline::take_in`: what the pairs leave goes from character to character as the definition does.
 -- Assumes nothing.
-use mathlib.Core.Path.{refl}
+use mathlib.Core.Path.{refl, _∙_}
 use Prim.Native.Nat.{_-_}
 use native.Mathlib.Omega.{arith}
 use borrow.Author.Tests.{not-true, not-false}
 use borrow.Author.Needs.{needs}
 use lib.ListN.{length}
+use Rattle.hexline.specs.Taking.{state}
+use Rattle.hexline.specs.Walking.{Walked}
 use Rattle.hexline.proofs.Digits.{value-is, value-none}
 use Rattle.hexline.proofs.Taking.{
-  Walked,
   walked-start,
+  walked-on,
   walked-turn,
   walked-kept,
   walked-newline,
@@ -22,19 +24,27 @@ use Rattle.hexline.proofs.take_in.Statement.{statement}
 use Rattle.hexline.proofs.take_in.Tie as tie
 use Rattle.hexline.proofs.take_in.Reads as reads
 use Rattle.hexline.proofs.take_in.Lts as lts
-use Rattle.hexline.proofs.keep.Reads as keep-reads
 use Rattle.hexline.proofs.answer.Reads as answer-reads
-use Rattle.hexline.proofs.value_of.Reads as value-of-reads
+use Rattle.hexline.proofs.digit_values.Reads as digit-values-reads
+use Rattle.hexline.proofs.keep.Reads as keep-reads
+use Rattle.hexline.proofs.take_pairs.Reads as take-pairs-reads
+use Rattle.hexline.proofs.value_in.Reads as value-in-reads
 
 abbrev Inv-loop : tie.InvT-loop
-Inv-loop frame₀ piece from len₀ half₀ odd₀ bad₀ at₀ frame len half odd bad at =
-    Walked frame₀ piece from len₀ half₀ odd₀ bad₀ frame len half odd bad at
+Inv-loop frame₀ piece from len₀ half₀ odd₀ bad₀ at₀ values frame len half odd bad at =
+    Walked (state len₀ half₀ odd₀ bad₀ frame₀) piece at₀ (state len half odd bad frame) at
 
 abbrev μ-loop : tie.MeasureT-loop
-μ-loop frame₀ piece from len₀ half₀ odd₀ bad₀ at₀ frame len half odd bad at = length piece - at
+μ-loop frame₀ piece from len₀ half₀ odd₀ bad₀ at₀ values frame len half odd bad at = length piece - at
+
+take-pairs-requires : tie.Need-take-pairs-requires Inv-loop μ-loop
+take-pairs-requires c κs = search needs
+
+digit-values-requires : tie.Need-digit-values-requires Inv-loop μ-loop
+digit-values-requires c κs = search needs
 
 loop-holds : tie.Need-loop-holds Inv-loop μ-loop
-loop-holds c = walked-start _ _ _ _ _ _ _
+loop-holds c = walked-start _ _ _
 
 shared-slice-read-c : tie.Need-shared-slice-read-c Inv-loop μ-loop
 shared-slice-read-c c = search needs
@@ -46,25 +56,29 @@ answer-requires : tie.Need-answer-requires Inv-loop μ-loop
 answer-requires c κs = search needs
 
 same-length : tie.Need-same-length Inv-loop μ-loop
-same-length c = c .before .before .before .before .loop .inv .size
+same-length c =
+    let at-loop = c .before .before .before .before in
+    at-loop .loop .inv .size ∙ at-loop .before .before .before .before .before .take-pairs .ensures .size
 
 returns : tie.Need-returns Inv-loop μ-loop
 returns c =
     let s = c .before in
+    let at-loop = s .before .before .before in
+    let front = at-loop .before .before .before .before .before .take-pairs .ensures in
     rw (c .answer .ensures)
-    (walked-newline (s .before .before .before .loop .inv) (s .before .before .loop-test .taken) (s .if1 .taken))
+    (walked-newline (walked-on front (at-loop .loop .inv)) (s .before .before .loop-test .taken) (s .if1 .taken))
 
-value-of-requires : tie.Need-value-of-requires Inv-loop μ-loop
-value-of-requires c κs = search needs
+value-in-requires : tie.Need-value-in-requires Inv-loop μ-loop
+value-in-requires c κs = search needs
 
 loop-less : tie.Need-loop-less Inv-loop μ-loop
 loop-less c = omega arith
 
 loop-again : tie.Need-loop-again Inv-loop μ-loop
 loop-again c =
-    walked-turn (c .before .before .before .before .before .loop .inv) _ _ _ _ _
-    (c .before .before .before .before .loop-test .taken) (c .before .before .if1 .left)
-    (on-bad _ _ _ _ _ _ (value-none _ _ (c .before .value-of .ensures) (c .if2 .taken)))
+    let s = c .before .before .before in
+    walked-turn (s .before .before .before .loop .inv) _ (s .before .before .loop-test .taken) (s .if1 .left)
+    (on-bad _ _ _ _ _ _ (value-none _ _ (c .before .value-in .ensures) (c .if2 .taken)))
     refl
 
 loop-less-2 : tie.Need-loop-less-2 Inv-loop μ-loop
@@ -72,10 +86,10 @@ loop-less-2 c = omega arith
 
 loop-again-2 : tie.Need-loop-again-2 Inv-loop μ-loop
 loop-again-2 c =
-    walked-turn (c .before .before .before .before .before .before .loop .inv) _ _ _ _ _
-    (c .before .before .before .before .before .loop-test .taken) (c .before .before .before .if1 .left)
-    (on-high _ _ _ _ _ _ _ (value-is _ _ (c .before .before .value-of .ensures) (c .before .if2 .left))
-    (not-true _ (c .if3 .taken)))
+    let v = c .before .before in
+    let s = v .before .before in
+    walked-turn (s .before .before .before .loop .inv) _ (s .before .before .loop-test .taken) (s .if1 .left)
+    (on-high _ _ _ _ _ _ _ (value-is _ _ (v .value-in .ensures) (c .before .if2 .left)) (not-true _ (c .if3 .taken)))
     refl
 
 loop-less-3 : tie.Need-loop-less-3 Inv-loop μ-loop
@@ -83,9 +97,10 @@ loop-less-3 c = omega arith
 
 loop-again-3 : tie.Need-loop-again-3 Inv-loop μ-loop
 loop-again-3 c =
-    walked-turn (c .before .before .before .before .before .before .before .loop .inv) _ _ _ _ _
-    (c .before .before .before .before .before .before .loop-test .taken) (c .before .before .before .before .if1 .left)
-    (on-full _ _ _ _ _ _ _ (value-is _ _ (c .before .before .before .value-of .ensures) (c .before .before .if2 .left))
+    let v = c .before .before .before in
+    let s = v .before .before in
+    walked-turn (s .before .before .before .loop .inv) _ (s .before .before .loop-test .taken) (s .if1 .left)
+    (on-full _ _ _ _ _ _ _ (value-is _ _ (v .value-in .ensures) (c .before .before .if2 .left))
     (not-false _ (c .before .if3 .left)) (c .if4 .taken))
     refl
 
@@ -106,21 +121,27 @@ loop-less-4 c = omega arith
 
 loop-again-4 : tie.Need-loop-again-4 Inv-loop μ-loop
 loop-again-4 c =
-    let s = c .before .before .before .before in
-    walked-kept (s .before .before .before .before .before .before .before .loop .inv) _ _
-    (c .before .before .keep .ensures)
-    (s .before .before .before .before .before .before .loop-test .taken) (s .before .before .before .before .if1 .left)
-    (value-is _ _ (s .before .before .before .value-of .ensures) (s .before .before .if2 .left))
-    (not-false _ (s .before .if3 .left)) (s .if4 .left)
+    let f = c .before .before .before .before in
+    let v = f .before .before .before in
+    let s = v .before .before in
+    walked-kept (s .before .before .before .loop .inv) _ _ (c .before .before .keep .ensures)
+    (s .before .before .loop-test .taken) (s .if1 .left)
+    (value-is _ _ (v .value-in .ensures) (f .before .before .if2 .left)) (not-false _ (f .before .if3 .left))
+    (f .if4 .left)
 
 answer-requires-2 : tie.Need-answer-requires-2 Inv-loop μ-loop
 answer-requires-2 c κs = search needs
 
 same-length-2 : tie.Need-same-length-2 Inv-loop μ-loop
-same-length-2 c = c .before .before .loop .inv .size
+same-length-2 c =
+    let at-loop = c .before .before in
+    at-loop .loop .inv .size ∙ at-loop .before .before .before .before .before .take-pairs .ensures .size
 
 returns-2 : tie.Need-returns-2 Inv-loop μ-loop
-returns-2 c = rw (c .answer2 .ensures) (walked-end (c .before .before .loop .inv) (c .before .loop-test .left))
+returns-2 c =
+    let at-loop = c .before .before in
+    let front = at-loop .before .before .before .before .before .take-pairs .ensures in
+    rw (c .answer2 .ensures) (walked-end (walked-on front (at-loop .loop .inv)) (c .before .loop-test .left))
 
 pub take-in-spec : {M : Type 1} → statement M
 take-in-spec =
@@ -128,13 +149,15 @@ take-in-spec =
     (tie.spec
     Inv-loop
     μ-loop
+    take-pairs-requires
+    digit-values-requires
     loop-holds
     shared-slice-read-c
     add-at
     answer-requires
     same-length
     returns
-    value-of-requires
+    value-in-requires
     loop-less
     loop-again
     loop-less-2

@@ -1,0 +1,16 @@
+-- `hexline::digit_values`: the table is what the definition of a digit computes for each character.
+-- Assumes nothing.
+use mathlib.Core.Path.{refl}
+use Rattle.hexline.specs.Line.{within, digit}
+use Rattle.hexline.specs.Walking.{valuesFrom, digitValues}
+use Rattle.hexline.proofs.digit_values.Statement.{statement}
+use Rattle.hexline.proofs.digit_values.Tie as tie
+use Rattle.hexline.proofs.digit_values.Reads as reads
+use Rattle.hexline.proofs.digit_values.Lts as lts
+
+returns : tie.Need-returns
+unfolding digitValues valuesFrom digit within
+returns c = refl
+
+pub digit-values-spec : {M : Type 1} → statement M
+digit-values-spec = tie.close (tie.spec returns)
