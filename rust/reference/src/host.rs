@@ -3,16 +3,10 @@
 //! of state and memory, which takes their place only if no message is refused.
 
 use crate::refusal;
+use crate::windows::Windows;
 use crate::wire::{self, FRAME_HEADER, Message};
 use std::collections::{BTreeMap, BTreeSet};
 use std::fmt;
-
-/// Frame numbers from the next one on that may be accepted (H4).
-pub const FRAME_WINDOW: i64 = 64;
-/// The first distance at which a frame number counts as behind (H4).
-pub const FRAME_BEHIND: i64 = 32_768;
-/// Transaction numbers from the lowest one on that may have messages (H9).
-pub const TRANSACTION_WINDOW: i64 = 32;
 
 /// What all messages of a transaction have to say alike (N9).
 #[derive(Clone, Copy, Debug, PartialEq, Eq)]
@@ -26,6 +20,11 @@ pub struct Terms {
 }
 
 impl Terms {
+    /// How many messages the transaction takes; the bare one is a message too (W16).
+    pub fn messages(&self) -> u16 {
+        self.count.max(1)
+    }
+
     fn of(message: &Message) -> Terms {
         Terms {
             count: message.count,
@@ -104,6 +103,7 @@ pub enum Position {
 pub struct Host {
     own: u16,
     peer: u16,
+    windows: Windows,
     /// The lowest frame number not accepted.
     next: u16,
     /// Accepted frame numbers past `next`.
@@ -132,12 +132,18 @@ impl Host {
         Host {
             own,
             peer,
+            windows: Windows::RULES,
             next,
             accepted: BTreeSet::new(),
             lowest,
             closed: BTreeSet::new(),
             open: BTreeMap::new(),
         }
+    }
+
+    /// The same end with windows of other sizes. For tests of what those break.
+    pub fn with_windows(self, windows: Windows) -> Host {
+        Host { windows, ..self }
     }
 
     /// Answers any bytes at all.
@@ -224,8 +230,7 @@ impl Host {
 
         memory[data].copy_from_slice(message.data);
         let received = 1 + open.map_or(0, |open| open.received);
-        // The bare message of a transaction without data messages is one as well.
-        let complete = received == terms.count.max(1);
+        let complete = received == terms.messages();
         if complete {
             memory[completion].copy_from_slice(&terms.completion_value.to_le_bytes());
             self.close(transaction);
@@ -253,9 +258,9 @@ impl Host {
     /// Where a frame number lies.
     pub fn position(&self, number: u16) -> Position {
         let distance = (i64::from(number) - i64::from(self.next)).rem_euclid(1 << 16);
-        if distance < FRAME_WINDOW {
+        if distance < self.windows.frames {
             Position::InWindow
-        } else if distance < FRAME_BEHIND {
+        } else if distance < self.windows.behind {
             Position::Ahead
         } else {
             Position::Behind
@@ -270,12 +275,17 @@ impl Host {
     /// Whether a transaction may have messages, as far as its number goes.
     pub fn in_window(&self, transaction: u32) -> bool {
         let distance = (i64::from(transaction) - i64::from(self.lowest)).rem_euclid(1 << 32);
-        distance < TRANSACTION_WINDOW
+        distance < self.windows.transactions
     }
 
     /// Whether a transaction in the window is complete.
     pub fn is_closed(&self, transaction: u32) -> bool {
         self.closed.contains(&transaction)
+    }
+
+    /// The own ID and then the peer's.
+    pub fn ids(&self) -> (u16, u16) {
+        (self.own, self.peer)
     }
 
     /// The lowest frame number not accepted.

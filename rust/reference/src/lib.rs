@@ -4,10 +4,21 @@
 
 #![forbid(unsafe_code)]
 
+pub mod book;
+pub mod calls;
+pub mod card;
 pub mod cases;
+pub mod demand;
+pub mod ends;
+pub mod faults;
 pub mod host;
+pub mod list;
+pub mod premises;
 pub mod refusal;
 pub mod replay;
 pub mod rng;
+pub mod script;
+pub mod simulator;
 pub mod traffic;
+pub mod windows;
 pub mod wire;

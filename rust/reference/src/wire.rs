@@ -13,6 +13,9 @@ pub const LONGEST_FRAME: usize = 9_000;
 /// The flag bit of a frame with at least one message (W3).
 pub const HAS_MESSAGES: u8 = 0x01;
 
+/// Where a message header has its trailing byte (W7).
+pub const TRAILING: usize = 23;
+
 /// Message headers stand at multiples of this behind the frame header.
 const ALIGNMENT: usize = 8;
 
@@ -45,7 +48,8 @@ impl FrameHeader {
         }
     }
 
-    fn to_bytes(self) -> [u8; FRAME_HEADER] {
+    /// The header as it stands on the wire.
+    pub fn to_bytes(self) -> [u8; FRAME_HEADER] {
         let mut bytes = [0; FRAME_HEADER];
         bytes[0..2].copy_from_slice(&self.destination.to_le_bytes());
         bytes[2..4].copy_from_slice(&self.source.to_le_bytes());
@@ -138,7 +142,7 @@ fn read_messages(frame: &[u8]) -> Result<Vec<Message<'_>>, u8> {
             data_address: u32_at(header, 16),
             data,
         });
-        if !follows(header[23]) {
+        if !follows(header[TRAILING]) {
             return Ok(messages);
         }
         at = next_header(data_end);
@@ -188,7 +192,8 @@ pub fn write_frame(destination: u16, source: u16, number: u16, messages: &[Messa
     frame
 }
 
-fn message_header(message: &Message, another: bool) -> [u8; MESSAGE_HEADER] {
+/// A message's header as it stands on the wire; data above 65,535 bytes has none.
+pub fn message_header(message: &Message, another: bool) -> [u8; MESSAGE_HEADER] {
     let length = u16::try_from(message.data.len()).expect("the length field has 16 bits");
     let mut bytes = [0; MESSAGE_HEADER];
     bytes[0..4].copy_from_slice(&message.transaction.to_le_bytes());
@@ -197,7 +202,7 @@ fn message_header(message: &Message, another: bool) -> [u8; MESSAGE_HEADER] {
     bytes[12..14].copy_from_slice(&message.count.to_le_bytes());
     bytes[16..20].copy_from_slice(&message.data_address.to_le_bytes());
     bytes[20..22].copy_from_slice(&length.to_le_bytes());
-    bytes[23] = u8::from(another);
+    bytes[TRAILING] = u8::from(another);
     bytes
 }
 

@@ -1,0 +1,262 @@
+//! The program that drives a card and a host by lines, one call each, and writes every
+//! answer, for comparison with the proved one. It works on any ends and any stream, so
+//! that tests and the program beside it run the same code.
+
+use crate::demand::UNWRITTEN;
+use crate::ends::{CardEnd, Ends, HostEnd, Start};
+use crate::host::{Answer, Host};
+use crate::refusal::{self, Class};
+use crate::wire;
+use line::Line;
+use std::fmt::Write as _;
+use std::io::{self, BufRead, Write};
+
+mod line;
+
+pub use line::{LONGEST_LINE, MOST_MEMORY, MOST_SLOTS};
+
+/// The program between two lines.
+#[derive(Clone, Debug)]
+pub struct Program<E: Ends> {
+    ends: E,
+    card: E::Card,
+    slots: Vec<u8>,
+    host: E::Host,
+    memory: Vec<u8>,
+}
+
+impl<E: Ends> Program<E> {
+    /// Before the first line: both ends as a refused opening leaves them, with buffers
+    /// of no bytes.
+    pub fn new(ends: E) -> Program<E> {
+        let start = Start::default();
+        Program {
+            card: ends.open_card(0, 0, 0, &[], start).0,
+            slots: Vec::new(),
+            host: ends.open_host(0, 0, start).0,
+            memory: Vec::new(),
+            ends,
+        }
+    }
+
+    /// Answers one line, given without its newline.
+    pub fn line(&mut self, line: &[u8]) -> String {
+        match Line::read(line) {
+            Some(line) => self.call(line),
+            None => "?".to_string(),
+        }
+    }
+
+    fn call(&mut self, line: Line) -> String {
+        match line {
+            Line::Card {
+                own,
+                peer,
+                limit,
+                slots,
+            } => {
+                self.slots = vec![UNWRITTEN; slots];
+                let start = Start::default();
+                let (card, refusal) = self.ends.open_card(own, peer, limit, &self.slots, start);
+                self.card = card;
+                done(refusal.map_or(Ok(()), Err))
+            }
+            Line::Host { own, peer, memory } => {
+                self.memory = vec![0; memory];
+                let (host, refusal) = self.ends.open_host(own, peer, Start::default());
+                self.host = host;
+                done(refusal.map_or(Ok(()), Err))
+            }
+            Line::Open {
+                count,
+                address,
+                value,
+            } => numbered("t", self.card.open_transaction(count, address, value)),
+            Line::Add {
+                transaction,
+                address,
+                data,
+            } => done(self.card.add(transaction, address, &data, &mut self.slots)),
+            Line::Seal => numbered("f", self.card.seal(&self.slots)),
+            Line::Read(frame) => done(self.card.read(&frame)),
+            Line::Show(number) => {
+                let card = self.card.card();
+                let part = card.show(number, &self.slots);
+                self.handed_out(part, card.show_refusal(number, &self.slots))
+            }
+            Line::Choose(lent) => {
+                let card = self.card.card();
+                let part = card.choose(&lent, &self.slots);
+                self.handed_out(part, card.choose_refusal(&lent, &self.slots))
+            }
+            Line::Receive(frame) => {
+                let answer = self.host.receive(&frame, &mut self.memory);
+                self.received(answer)
+            }
+            Line::Layout(frame) => layout(&frame),
+            Line::Class(number) => class(number).to_string(),
+            Line::Slots => digest(&self.slots),
+            Line::Memory => digest(&self.memory),
+            Line::State => state(self.host.host()),
+        }
+    }
+
+    /// A part is told with the place where it starts in the slot buffer, if it does.
+    fn handed_out(&self, part: &[u8], refusal: Option<u8>) -> String {
+        assert_eq!(
+            part.is_empty(),
+            refusal.is_some(),
+            "a part says if it is refused"
+        );
+        if let Some(number) = refusal {
+            return refused(number);
+        }
+        let (slots, start) = (self.slots.as_ptr_range(), part.as_ptr());
+        if slots.contains(&start) {
+            let offset = start.addr() - slots.start.addr();
+            format!("slot {offset} {}", hex(part))
+        } else {
+            format!("lent {}", hex(part))
+        }
+    }
+
+    fn received(&self, answer: Answer) -> String {
+        let mut text = answer.to_string();
+        match answer {
+            // A run is of one number before the request for longer ones.
+            Answer::Accepted { .. } | Answer::Again(_) => text += " run 1",
+            Answer::Refused { place, .. } => append(&mut text, format_args!(" place {place}")),
+            Answer::NoMessages => {}
+        }
+        if let Some(frame) = self.host.acknowledgement(answer, 0) {
+            append(&mut text, format_args!(" ack {}", hex(&frame)));
+        }
+        text
+    }
+
+    /// The card.
+    pub fn card(&self) -> &E::Card {
+        &self.card
+    }
+
+    /// The host.
+    pub fn host(&self) -> &E::Host {
+        &self.host
+    }
+}
+
+fn done(result: Result<(), u8>) -> String {
+    result.map_or_else(refused, |()| "ok".to_string())
+}
+
+fn numbered(word: &str, result: Result<impl std::fmt::Display, u8>) -> String {
+    result.map_or_else(refused, |number| format!("{word} {number}"))
+}
+
+fn refused(number: u8) -> String {
+    format!("R {number}")
+}
+
+fn append(text: &mut String, arguments: std::fmt::Arguments) {
+    text.write_fmt(arguments).expect("a string takes any text");
+}
+
+fn layout(frame: &[u8]) -> String {
+    match wire::layout(frame) {
+        Err(number) => refused(number),
+        Ok(layout) => {
+            let header = layout.header;
+            format!(
+                "L {} {} {} {} {} {} {} {}",
+                header.destination,
+                header.source,
+                header.number,
+                header.ack_start,
+                header.ack_count,
+                header.flags,
+                layout.messages,
+                layout.data_bytes
+            )
+        }
+    }
+}
+
+fn class(number: u32) -> &'static str {
+    match refusal::class(number) {
+        Class::None => "none",
+        Class::Wire => "wire",
+        Class::Message => "message",
+        Class::Caller => "caller",
+        Class::Card => "card",
+    }
+}
+
+/// The pair: marks have bit i set for the number i past the next or lowest one.
+fn state(host: &Host) -> String {
+    let ((own, peer), next, lowest) = (host.ids(), host.next(), host.lowest());
+    let accepted = (0..64u16).filter(|i| host.is_accepted(next.wrapping_add(*i)));
+    let marks: u64 = accepted.map(|i| 1 << i).sum();
+    let closed = (0..32u32).filter(|i| host.is_closed(lowest.wrapping_add(*i)));
+    let closed: u32 = closed.map(|i| 1 << i).sum();
+    let mut text = format!(
+        "own {own} peer {peer} next {next} marks {marks:016x} lowest {lowest} closed {closed:08x}"
+    );
+    let mut open: Vec<_> = host.open_transactions().iter().collect();
+    open.sort_by_key(|(number, _)| number.wrapping_sub(lowest));
+    for (number, entry) in open {
+        let terms = entry.terms;
+        let (address, value) = (terms.completion_address, terms.completion_value);
+        let (count, received) = (terms.count, entry.received);
+        append(
+            &mut text,
+            format_args!(" [{number} {address} {value} {count} {received} 0]"),
+        );
+    }
+    text
+}
+
+/// FNV-1a of 64 bits, in 16 digits.
+fn digest(bytes: &[u8]) -> String {
+    let mut hash = 0xcbf2_9ce4_8422_2325_u64;
+    for byte in bytes {
+        hash = (hash ^ u64::from(*byte)).wrapping_mul(0x0000_0100_0000_01b3);
+    }
+    format!("{hash:016x}")
+}
+
+/// Bytes as a line spells them.
+pub fn hex(bytes: &[u8]) -> String {
+    if bytes.is_empty() {
+        return "-".to_string();
+    }
+    let mut text = String::with_capacity(2 * bytes.len());
+    for byte in bytes {
+        append(&mut text, format_args!("{byte:02x}"));
+    }
+    text
+}
+
+/// The whole program on these ends.
+pub fn run<E: Ends>(ends: E, mut input: impl BufRead, mut output: impl Write) -> io::Result<()> {
+    let mut program = Program::new(ends);
+    let mut line = Vec::new();
+    loop {
+        line.clear();
+        // No byte at all is the end, so a last line without a newline is not empty.
+        if input.read_until(b'\n', &mut line)? == 0 {
+            return output.flush();
+        }
+        line.pop_if(|last| *last == b'\n');
+        writeln!(output, "{}", program.line(&line))?;
+    }
+}
+
+/// What the program writes for this input.
+pub fn output<E: Ends>(ends: E, input: &[u8]) -> String {
+    let mut output = Vec::new();
+    run(ends, input, &mut output).expect("memory is read and written without errors");
+    String::from_utf8(output).expect("the program writes plain letters and digits")
+}
+
+#[cfg(test)]
+mod tests;

@@ -1,0 +1,118 @@
+//! The lines of the program `calls`: words with one space between them, numbers in
+//! decimal, bytes in hexadecimal of either case and `-` for none. A line that is not of
+//! one of the forms, or past a limit, is none.
+
+use crate::replay;
+
+/// Characters of a line at most.
+pub const LONGEST_LINE: usize = 200_000;
+/// Bytes of a slot buffer at most.
+pub const MOST_SLOTS: usize = 600_000;
+/// Bytes of a memory at most.
+pub const MOST_MEMORY: usize = 1_048_576;
+
+/// A line of one of the forms.
+#[derive(Clone, Debug, PartialEq, Eq)]
+pub enum Line {
+    Card {
+        own: u16,
+        peer: u16,
+        limit: usize,
+        slots: usize,
+    },
+    Host {
+        own: u16,
+        peer: u16,
+        memory: usize,
+    },
+    Open {
+        count: u16,
+        address: u32,
+        value: u32,
+    },
+    Add {
+        transaction: u32,
+        address: u32,
+        data: Vec<u8>,
+    },
+    Seal,
+    Read(Vec<u8>),
+    Show(u16),
+    Choose(Vec<u8>),
+    Receive(Vec<u8>),
+    Layout(Vec<u8>),
+    Class(u32),
+    Slots,
+    Memory,
+    State,
+}
+
+impl Line {
+    /// Reads a line, given without its newline.
+    pub fn read(line: &[u8]) -> Option<Line> {
+        if line.len() > LONGEST_LINE {
+            return None;
+        }
+        let words: Vec<&[u8]> = line.split(|byte| *byte == b' ').collect();
+        let (name, words) = words.split_first().expect("a split has a first part");
+        match (*name, words) {
+            (b"card", [own, peer, limit, slots, changed]) => {
+                // Whether the limit has changed means nothing yet, but has to be said.
+                number::<u8>(changed).filter(|changed| *changed <= 1)?;
+                Some(Line::Card {
+                    own: number(own)?,
+                    peer: number(peer)?,
+                    limit: number::<u32>(limit)? as usize,
+                    slots: number(slots).filter(|slots| *slots <= MOST_SLOTS)?,
+                })
+            }
+            (b"host", [own, peer, memory]) => Some(Line::Host {
+                own: number(own)?,
+                peer: number(peer)?,
+                memory: number(memory).filter(|memory| *memory <= MOST_MEMORY)?,
+            }),
+            (b"open", [count, address, value]) => Some(Line::Open {
+                count: number(count)?,
+                address: number(address)?,
+                value: number(value)?,
+            }),
+            (b"add", [transaction, address, data]) => Some(Line::Add {
+                transaction: number(transaction)?,
+                address: number(address)?,
+                data: bytes(data)?,
+            }),
+            (b"seal", []) => Some(Line::Seal),
+            (b"read", [frame]) => Some(Line::Read(bytes(frame)?)),
+            (b"show", [frame]) => Some(Line::Show(number(frame)?)),
+            (b"choose", [lent]) => Some(Line::Choose(bytes(lent)?)),
+            (b"receive", [frame]) => Some(Line::Receive(bytes(frame)?)),
+            (b"layout", [frame]) => Some(Line::Layout(bytes(frame)?)),
+            (b"class", [refusal]) => Some(Line::Class(number(refusal)?)),
+            (b"slots", []) => Some(Line::Slots),
+            (b"memory", []) => Some(Line::Memory),
+            (b"state", []) => Some(Line::State),
+            _ => None,
+        }
+    }
+}
+
+/// One or more decimal digits, if the value is one of the type's.
+fn number<T: TryFrom<u64>>(word: &[u8]) -> Option<T> {
+    if word.is_empty() {
+        return None;
+    }
+    let value = word.iter().try_fold(0u64, |value, digit| {
+        let digit = digit.is_ascii_digit().then(|| u64::from(digit - b'0'))?;
+        value.checked_mul(10)?.checked_add(digit)
+    })?;
+    T::try_from(value).ok()
+}
+
+/// Bytes in hexadecimal; a word of no digits is not a way to say that there are none.
+fn bytes(word: &[u8]) -> Option<Vec<u8>> {
+    match word {
+        b"-" => Some(Vec::new()),
+        b"" => None,
+        _ => replay::bytes_of(word),
+    }
+}

@@ -1,0 +1,59 @@
+//! The book's memory kept up from arrival to arrival, so that long lists can be
+//! checked after every call. Each byte remembers which write it has, as the order of
+//! opening and then of adding ranks them; only a higher one takes its place.
+
+use crate::book::{Book, Expected};
+
+/// Where a write stands among all: its transaction, then its message's index; the
+/// completion comes after all data.
+type Rank = (usize, u32);
+
+/// The memory so far.
+#[derive(Clone, Debug)]
+pub struct KeptMemory {
+    bytes: Vec<u8>,
+    ranks: Vec<Option<Rank>>,
+}
+
+impl KeptMemory {
+    /// Before the first arrival.
+    pub fn new(starting_memory: &[u8]) -> KeptMemory {
+        KeptMemory {
+            bytes: starting_memory.to_vec(),
+            ranks: vec![None; starting_memory.len()],
+        }
+    }
+
+    /// Takes in what the book just said of an arrival.
+    pub fn arrive(&mut self, book: &Book, expected: &Expected) {
+        let Expected::Accepted {
+            frame, completed, ..
+        } = expected
+        else {
+            return;
+        };
+        for message in &book.frames()[*frame].messages {
+            let rank = (message.transaction, message.index);
+            self.write(message.address, &message.data, rank);
+        }
+        for transaction in completed {
+            let terms = book.transactions()[*transaction].terms;
+            let value = terms.completion_value.to_le_bytes();
+            self.write(terms.completion_address, &value, (*transaction, u32::MAX));
+        }
+    }
+
+    fn write(&mut self, address: u32, data: &[u8], rank: Rank) {
+        for (at, byte) in (address as usize..).zip(data) {
+            if at < self.bytes.len() && self.ranks[at] < Some(rank) {
+                self.bytes[at] = *byte;
+                self.ranks[at] = Some(rank);
+            }
+        }
+    }
+
+    /// The bytes.
+    pub fn bytes(&self) -> &[u8] {
+        &self.bytes
+    }
+}
