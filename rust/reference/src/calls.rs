@@ -216,7 +216,7 @@ fn state(host: &Host) -> String {
 }
 
 /// FNV-1a of 64 bits, in 16 digits.
-fn digest(bytes: &[u8]) -> String {
+pub fn digest(bytes: &[u8]) -> String {
     let mut hash = 0xcbf2_9ce4_8422_2325_u64;
     for byte in bytes {
         hash = (hash ^ u64::from(*byte)).wrapping_mul(0x0000_0100_0000_01b3);

@@ -1,1 +1,157 @@
-//! Tests.
+use super::*;
+use crate::cases::WHOLE_CASE;
+use crate::ends::Sound;
+
+fn answers(lines: &[&str]) -> Vec<String> {
+    let output = output(Sound, lines.join("\n").as_bytes());
+    output.lines().map(str::to_string).collect()
+}
+
+#[test]
+fn before_any_opening() {
+    let lines = [
+        "slots",
+        "memory",
+        "state",
+        "seal",
+        "choose -",
+        "open 0 0 0",
+        "class 13",
+    ];
+    let state = "own 0 peer 0 next 0 marks 0000000000000000 lowest 0 closed 00000000";
+    let empty = "cbf29ce484222325";
+    let expected = [empty, empty, state, "R 26", "R 26", "t 0", "caller"];
+    assert_eq!(answers(&lines), expected);
+}
+
+/// The published digests of a few texts.
+#[test]
+fn digests() {
+    assert_eq!(digest(b"a"), "af63dc4c8601ec8c");
+    assert_eq!(digest(b"foobar"), "85944171f73967e8");
+}
+
+#[test]
+fn whole_case() {
+    let frame = hex(&WHOLE_CASE);
+    let (show, receive) = (format!("slot 0 {frame}"), format!("receive {frame}"));
+    let cases = [
+        ("card 2 1 38 2432 0", "ok"),
+        ("host 1 2 68", "ok"),
+        ("open 1 64 287454020", "t 0"),
+        ("add 0 0 0A0b0c0D", "ok"),
+        ("seal", "f 0"),
+        ("show 0", &show),
+        (&receive, "A 0 1 4 1 run 1 ack 02000100000000000100"),
+        (&receive, "G 0 run 1 ack 02000100000000000100"),
+        ("read 02000100000000000100", "ok"),
+        ("show 0", "R 25"),
+    ];
+    let (lines, expected): (Vec<&str>, Vec<&str>) = cases.into_iter().unzip();
+    assert_eq!(answers(&lines), expected);
+    let mut program = Program::new(Sound);
+    for line in lines {
+        program.line(line.as_bytes());
+    }
+    let mut memory = [0; 68];
+    memory[..4].copy_from_slice(&[0x0a, 0x0b, 0x0c, 0x0d]);
+    memory[64..].copy_from_slice(&[0x44, 0x33, 0x22, 0x11]);
+    assert_eq!(program.line(b"memory"), digest(&memory));
+    let mut slots = [0xa5; 2_432];
+    slots[..38].copy_from_slice(&WHOLE_CASE);
+    assert_eq!(program.line(b"slots"), digest(&slots));
+}
+
+#[test]
+fn lines_of_no_form_change_nothing() {
+    let mut program = Program::new(Sound);
+    program.line(b"card 2 1 34 2176 0");
+    program.line(b"host 1 2 100");
+    let long = [b"receive ".to_vec(), vec![b'0'; LONGEST_LINE - 7]].concat();
+    let bad: [&[u8]; 30] = [
+        b"",
+        b" ",
+        b"seal ",
+        b" seal",
+        b"SEAL",
+        b"seal\r",
+        b"seal seal",
+        b"open 0 0",
+        b"open 0 0 0 0",
+        b"open  0 0",
+        b"open 65536 0 0",
+        b"open 0 4294967296 0",
+        b"open 0 0 4294967296",
+        b"open -1 0 0",
+        b"open +1 0 0",
+        b"open 0x1 0 0",
+        b"show",
+        b"show 65536",
+        b"show a",
+        b"add 0 0 ",
+        b"add 0 0 0",
+        b"add 0 0 zz",
+        b"add 0 0 --",
+        b"card 65536 1 34 2176 0",
+        b"card 2 1 34 600001 0",
+        b"card 2 1 34 2176 2",
+        b"card 2 1 34 2176",
+        b"host 1 2 1048577",
+        b"class 4294967296",
+        &long,
+    ];
+    for line in bad {
+        assert_eq!(program.line(line), "?", "{}", line.escape_ascii());
+    }
+    assert_eq!(program.line(b"state"), answers(&["host 1 2 9", "state"])[1]);
+    assert_eq!(
+        program.line(b"open 00 0 0"),
+        "t 0",
+        "zeros in front are digits too"
+    );
+    // One character less is a line.
+    assert_eq!(program.line(&long[..LONGEST_LINE]), "R 2 place 0");
+}
+
+#[test]
+fn limits_of_buffers() {
+    let lines = [
+        "card 2 1 9000 576000 1",
+        "card 2 1 9000 600000 0",
+        "host 1 2 1048576",
+        "host 1 0 5",
+    ];
+    assert_eq!(answers(&lines), ["ok", "R 26", "ok", "R 13"]);
+}
+
+#[test]
+fn endings() {
+    assert_eq!(output(Sound, b""), "");
+    assert_eq!(output(Sound, b"\n"), "?\n");
+    assert_eq!(output(Sound, b"seal"), "R 26\n");
+    assert_eq!(output(Sound, b"seal\n\nseal\n"), "R 26\n?\nR 26\n");
+}
+
+#[test]
+fn the_state_tells_marks_and_open_transactions() {
+    let mut program = Program::new(Sound);
+    program.line(b"host 1 2 100");
+    let message = |transaction, count| wire::Message {
+        transaction,
+        completion_address: 4,
+        completion_value: 5,
+        count,
+        data_address: 0,
+        data: &[],
+    };
+    let frame = |number, messages: &[wire::Message]| {
+        let frame = wire::write_frame(1, 2, number, messages);
+        format!("receive {}", hex(&frame)).into_bytes()
+    };
+    let messages = [message(31, 9), message(2, 0), message(0, 3), message(31, 9)];
+    program.line(&frame(63, &messages));
+    program.line(&frame(1, &[message(1, 0)]));
+    let expected = "own 1 peer 2 next 0 marks 8000000000000002 lowest 0 closed 00000006 \
+                    [0 4 5 3 1 0] [31 4 5 9 2 0]";
+    assert_eq!(program.line(b"state"), expected);
+}
