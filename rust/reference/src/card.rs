@@ -266,6 +266,14 @@ impl Card {
         self.next_frame() as u16
     }
 
+    /// The numbers of the transactions that want a message.
+    pub fn unfilled(&self) -> impl Iterator<Item = u32> {
+        let numbered = (self.finished..).zip(&self.transactions);
+        numbered
+            .filter(|(_, entry)| !entry.is_filled())
+            .map(|(count, _)| count as u32)
+    }
+
     fn to_show(&self, number: u16, slots: &[u8]) -> Result<Range<usize>, u8> {
         self.check(slots)?;
         let index = self.sealed_index(number).ok_or(refusal::NOTHING_TO_SHOW)?;

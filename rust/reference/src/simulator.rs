@@ -26,6 +26,18 @@ const LATENESS: [usize; 12] = [
     1, 2, 3, 63, 64, 65, 66, 1_000, 16_384, 32_766, 32_767, 32_768,
 ];
 
+/// What is done next where nothing special is.
+#[derive(Clone, Copy, Debug)]
+enum Action {
+    Open,
+    Add,
+    Seal,
+    Show,
+    Choose,
+    Receive,
+    Read,
+}
+
 /// A source of calls.
 #[derive(Clone, Debug)]
 pub struct Simulator {
@@ -91,34 +103,24 @@ impl Simulator {
         {
             return call;
         }
-        let held = book.lowest_not_released()..book.frames().len();
+        let unreleased = book.frames().len() - book.lowest_not_released();
         let weights = [
-            (0, self.weight_of_opening(book)),
-            (1, self.weight_of_adding(book)),
-            (2, 3 * book.building().len()),
-            (3, 5 * self.unsent.len().min(2)),
-            (4, 1 + usize::from(!held.is_empty())),
-            (5, self.frames_on_way.len().min(8)),
-            (6, self.acknowledgements_on_way.len().min(8)),
+            (Action::Open, self.weight_of_opening(book)),
+            (Action::Add, self.weight_of_adding(book)),
+            (Action::Seal, 3 * book.building().len()),
+            (Action::Show, 5 * self.unsent.len().min(2)),
+            (Action::Choose, 1 + unreleased.min(1)),
+            (Action::Receive, self.frames_on_way.len().min(8)),
+            (Action::Read, self.acknowledgements_on_way.len().min(8)),
         ];
-        let total = weights.iter().map(|(_, weight)| weight).sum();
-        let mut place = self.rng.below(total);
-        let mut chosen = 4;
-        for (action, weight) in weights {
-            if place < weight {
-                chosen = action;
-                break;
-            }
-            place -= weight;
-        }
-        match chosen {
-            0 => self.opening(book),
-            1 => self.adding(book),
-            2 => Call::Seal,
-            3 => self.showing(book),
-            5 => self.receiving(book),
-            6 => self.reading(book),
-            _ => self.choosing(),
+        match weighted(&mut self.rng, &weights) {
+            Action::Open => self.opening(book),
+            Action::Add => self.adding(book),
+            Action::Seal => Call::Seal,
+            Action::Show => self.showing(book),
+            Action::Choose => self.choosing(),
+            Action::Receive => self.receiving(book),
+            Action::Read => self.reading(book),
         }
     }
 
@@ -138,7 +140,7 @@ impl Simulator {
         match self.plans.has_unfilled(book) {
             false => 0,
             true if book.building().is_empty() => 6,
-            true => 3,
+            true => 2,
         }
     }
 
@@ -344,6 +346,18 @@ impl Simulator {
             1
         }
     }
+}
+
+/// One of the items, each as often as its weight says; their sum must not be 0.
+fn weighted<T: Copy>(rng: &mut Rng, items: &[(T, usize)]) -> T {
+    let total = items.iter().map(|(_, weight)| weight).sum();
+    let mut place = rng.below(total);
+    let chosen = items.iter().find(|(_, weight)| {
+        let here = place < *weight;
+        place = place.saturating_sub(*weight);
+        here
+    });
+    chosen.expect("the place is below the sum").0
 }
 
 /// The one that comes next: mostly the first, `reorder` times in 100 any.

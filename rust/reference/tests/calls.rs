@@ -2,6 +2,8 @@
 //! answers, and they have every refusal and every kind of answer among them. The script
 //! is made by `calls-sample`.
 
+use reference::script::Wild;
+use std::collections::BTreeMap;
 use std::io::Write;
 use std::process::{Command, Stdio};
 use std::thread;
@@ -110,5 +112,79 @@ fn the_stored_script_has_every_refusal_and_answer() {
     ] {
         let answered = has(word, &|got| got.starts_with(answer));
         assert!(answered, "{word} with {answer}");
+    }
+}
+
+/// The first word of a line with what its answer begins with.
+fn kind(line: &[u8], answer: &str) -> (String, String) {
+    let word = line.split(|byte| *byte == b' ').next().unwrap_or(b"");
+    let mut words = answer.split(' ');
+    let first = words.next().unwrap_or("");
+    let answer = match (word, first) {
+        (b"slots" | b"memory", _) => "digest".to_string(),
+        (_, "R") => format!("R {}", words.next().unwrap_or("")),
+        _ => first.to_string(),
+    };
+    (String::from_utf8_lossy(word).into_owned(), answer)
+}
+
+/// Without each of these a comparison by such lines would be one about next to nothing.
+#[test]
+fn lines_of_any_kind_meet_every_answer() {
+    let mut met: BTreeMap<(String, String), u64> = BTreeMap::new();
+    for seed in 0..4 {
+        let mut wild = Wild::new(seed);
+        for _ in 0..10_000 {
+            let (line, answer) = wild.next_line();
+            *met.entry(kind(&line, &answer)).or_default() += 1;
+        }
+    }
+    let refusals: [(&str, &[u8]); 10] = [
+        ("card", &[13, 26]),
+        ("host", &[13]),
+        ("open", &[20]),
+        ("add", &[21, 22, 23, 26, 27]),
+        ("seal", &[24, 26]),
+        ("show", &[25, 26]),
+        ("choose", &[25, 26]),
+        ("read", &[1, 2, 3, 4, 5]),
+        ("receive", &[1, 2, 3, 4, 5, 6, 7, 8, 9, 10, 11, 12]),
+        ("layout", &[1, 2, 4, 5]),
+    ];
+    let refused = refusals
+        .iter()
+        .flat_map(|(word, numbers)| numbers.iter().map(move |n| (*word, format!("R {n}"))));
+    let answers = [
+        "card ok",
+        "host ok",
+        "open t",
+        "add ok",
+        "seal f",
+        "show slot",
+        "choose slot",
+        "choose lent",
+        "read ok",
+        "receive A",
+        "receive G",
+        "receive N",
+        "layout L",
+        "class wire",
+        "class message",
+        "class caller",
+        "class card",
+        "class none",
+        "slots digest",
+        "memory digest",
+        "state own",
+        "show ?",
+        "add ?",
+        "card ?",
+        "receive ?",
+    ];
+    let answered = answers.map(|pair| pair.split_once(' ').unwrap_or((pair, "")));
+    let answered = answered.map(|(word, answer)| (word, answer.to_string()));
+    for (word, answer) in refused.chain(answered) {
+        let times = met.get(&(word.to_string(), answer.clone())).copied();
+        assert!(times.unwrap_or(0) >= 5, "{word} with {answer}: {times:?}");
     }
 }

@@ -57,3 +57,51 @@ impl KeptMemory {
         &self.bytes
     }
 }
+
+#[cfg(test)]
+mod tests {
+    use super::*;
+    use crate::ends::Start;
+    use crate::list::Call;
+    use crate::rng::Rng;
+
+    /// Whatever the transactions write over each other and themselves, and in whatever
+    /// order their frames arrive.
+    #[test]
+    fn it_is_the_books_memory_also_outside_the_premises() {
+        let mut rng = Rng::new(5);
+        for round in 0..300 {
+            let start = rng.bytes(12);
+            let mut book = Book::new(&start, Start::default());
+            let mut kept = KeptMemory::new(&start);
+            for transaction in 0..6 {
+                let open = Call::Open {
+                    count: 2,
+                    address: rng.below(9) as u32,
+                    value: rng.next_u32(),
+                };
+                book.enter(&open, false, &[]);
+                // The first of its two messages; the second follows in any later frame.
+                for number in [transaction, rng.below(transaction as usize + 1) as u32] {
+                    let length = rng.between(0, 3);
+                    if book.transactions()[number as usize].added == 2 {
+                        continue;
+                    }
+                    let add = Call::Add {
+                        transaction: number,
+                        address: rng.below(10) as u32,
+                        data: rng.bytes(length),
+                    };
+                    book.enter(&add, false, &[]);
+                }
+                book.enter(&Call::Seal, false, &[]);
+                book.enter(&Call::Show(transaction as u16), false, &[]);
+            }
+            for _ in 0..12 {
+                let expected = book.enter(&Call::Receive(rng.below(6)), false, &[]);
+                kept.arrive(&book, &expected);
+                assert_eq!(kept.bytes(), book.memory(), "round {round}");
+            }
+        }
+    }
+}

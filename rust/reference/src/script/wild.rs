@@ -3,7 +3,7 @@
 //! and lines of no form. The reference answers along, to know what to aim at.
 
 use crate::calls::{Program, hex};
-use crate::ends::{CardEnd, HostEnd, Sound};
+use crate::ends::{CardEnd, Sound};
 use crate::rng::Rng;
 use crate::traffic::{Kind, Traffic};
 use crate::wire::{self, FRAME_HEADER};
@@ -16,6 +16,8 @@ const EPISODE: usize = 600;
 enum Episode {
     /// Calls on both ends.
     Joined,
+    /// The same, with no acknowledgement read, so that the slots fill.
+    Deaf,
     /// Frames for the host alone.
     Guided(Box<Traffic>),
     /// Calls on ends whose opening may be refused.
@@ -94,14 +96,18 @@ impl Wild {
             0 => 9_000,
             _ => self.rng.pick(&[34, 35, 42, 66, 67, 100, 300]),
         };
-        self.episode = match self.rng.below(5) {
+        self.episode = match self.rng.below(6) {
             0 => Episode::Openings,
             1 => {
                 let traffic = Traffic::new(self.rng.next_u64(), Kind::Guided);
                 Episode::Guided(Box::new(traffic))
             }
+            2 => Episode::Deaf,
             _ => Episode::Joined,
         };
+        if matches!(self.episode, Episode::Deaf) {
+            self.left *= 2;
+        }
         self.memory = match self.episode {
             Episode::Guided(_) => 4_096,
             _ => self.rng.pick(&[0, 3, 4, 20, 100, 1_000]),
@@ -125,31 +131,33 @@ impl Wild {
                     let line = traffic.next_line().text;
                     return [b"receive ", line].concat();
                 }
-                Episode::Joined => self.joined(),
+                Episode::Joined => self.joined(32),
+                Episode::Deaf => self.joined(26),
                 Episode::Openings => self.opening(),
             },
         };
         line.into_bytes()
     }
 
-    fn joined(&mut self) -> String {
-        match self.rng.below(32) {
+    /// A call on either end, of the first `kinds` of 32.
+    fn joined(&mut self, kinds: usize) -> String {
+        match self.rng.below(kinds) {
             0..4 => self.open(),
             4..11 => self.add(),
-            11..15 => "seal".to_string(),
-            15..17 => self.show(),
-            17..21 => self.choose(),
-            21..26 => {
+            11..16 => "seal".to_string(),
+            16..18 => self.show(),
+            18..21 => self.choose(),
+            21..25 => {
                 let frame = self.any_frame();
                 format!("receive {frame}")
             }
-            26..31 => {
-                let frame = self.any_acknowledgement();
-                format!("read {frame}")
-            }
-            _ => {
+            25 => {
                 let frame = self.any_frame();
                 format!("layout {frame}")
+            }
+            _ => {
+                let frame = self.any_acknowledgement();
+                format!("read {frame}")
             }
         }
     }
@@ -181,7 +189,7 @@ impl Wild {
                 };
                 format!("receive {}", hex(&wire::write_frame(0, 0, 0, &[bare])))
             }
-            _ => self.joined(),
+            _ => self.joined(32),
         }
     }
 
@@ -192,14 +200,13 @@ impl Wild {
     }
 
     fn add(&mut self) -> String {
-        // Any of the latest transactions, and some that are not there.
+        // Mostly one that wants a message, and some that are not there.
+        let unfilled: Vec<u32> = self.program.card().card().unfilled().collect();
         let transaction = match self.rng.below(12) {
             0 => self.rng.next_u32(),
-            1 => self.program.host().host().lowest().wrapping_sub(1),
-            _ => {
-                let lowest = self.program.host().host().lowest();
-                lowest.wrapping_add(self.rng.below(12) as u32)
-            }
+            1 | 2 => self.rng.below(40) as u32,
+            _ if unfilled.is_empty() => 0,
+            _ => self.rng.pick(&unfilled),
         };
         let address = self.any_address();
         let room = self.limit.saturating_sub(34);
@@ -251,9 +258,10 @@ impl Wild {
 
     fn altered(&mut self, frame: &str) -> String {
         let mut bytes = crate::replay::bytes_of(frame.as_bytes()).unwrap_or_default();
-        match self.rng.below(4) {
-            0 => bytes.truncate(self.rng.below(bytes.len() + 1)),
-            1 => bytes.extend(self.rng.bytes(8)),
+        match self.rng.below(24) {
+            0..2 => bytes.resize(self.rng.pick(&[9_000, 9_001]), 0),
+            2..6 => bytes.truncate(self.rng.below(bytes.len() + 1)),
+            6..12 => bytes.extend(self.rng.bytes(8)),
             _ => {
                 let place = self.rng.below(bytes.len().clamp(1, 34));
                 let value = self.rng.pick(&[0, 1, 2, 64, 128, 255]);

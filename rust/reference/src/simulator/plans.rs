@@ -144,7 +144,8 @@ impl Plans {
     fn count(&self, rng: &mut Rng, profile: &Profile) -> usize {
         match (self.opened, rng.below(20)) {
             (0, _) if profile.hold > 0 => rng.between(2, 4),
-            (5..32, _) if profile.hold > 0 => rng.between(3_000, 6_000),
+            (1, _) if profile.hold > 0 => 0,
+            (5..32, _) if profile.hold > 0 => rng.between(3_500, 6_000),
             (_, 0..4) => 0,
             (_, 4..15) => rng.between(1, 3),
             (_, 15..19) => rng.between(4, 12),

@@ -70,7 +70,7 @@ impl Profile {
             card: 2,
             host: 1,
             limit: 66,
-            memory: 600,
+            memory: 6_000,
             start: Start::default(),
             lost: 4,
             repeated: 4,
