@@ -172,19 +172,21 @@ fn a_frame_may_be_32768_late_and_not_one_more() {
     assert_eq!(system.step(&call), Err(breach));
 }
 
-/// Runs calls of which none is refused, and gives what is wrong after them.
-fn after(memory: usize, calls: &[Call]) -> (Option<Breach>, Result<(), Forbidden>) {
+/// Runs calls of which none is refused, up to the first breach.
+fn run(memory: usize, calls: &[Call]) -> (System<Sound>, Option<Breach>) {
     let mut system = System::new(&Sound, &setting(memory), Care::EveryCall);
-    let mut breach = None;
     for call in calls {
         match system.step(call) {
             Ok(outcome) => assert_eq!(outcome.card_refusal(), None, "{call:?}"),
-            Err(found) => {
-                breach = Some(found);
-                break;
-            }
+            Err(breach) => return (system, Some(breach)),
         }
     }
+    (system, None)
+}
+
+/// What is wrong after these calls, with them and with their writes.
+fn after(memory: usize, calls: &[Call]) -> (Option<Breach>, Result<(), Forbidden>) {
+    let (system, breach) = run(memory, calls);
     (breach, premises::writes_allowed(system.book(), memory))
 }
 
@@ -284,6 +286,9 @@ fn later_transactions_write_over_finished_ones() {
         Call::Read(2),
         Call::Read(1),
     ];
-    let expected = (None, Ok(()));
-    assert_eq!(after(8, &calls), expected);
+    let (system, breach) = run(8, &calls);
+    assert_eq!(breach, None);
+    assert_eq!(premises::writes_allowed(system.book(), 8), Ok(()));
+    assert_eq!(system.memory(), [1, 9, 3, 0, 0xdd, 0xdd, 0xdd, 0xdd]);
+    assert!(system.book().is_settled());
 }

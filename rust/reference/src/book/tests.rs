@@ -1,3 +1,5 @@
+//! The plain book by hand-worked cases, with no card and no host beside it.
+
 use super::*;
 
 fn open(count: u16, address: u32) -> Call {

@@ -1,3 +1,5 @@
+//! The program for calls by hand-worked cases: its forms, their limits and its answers.
+
 use super::*;
 use crate::cases::WHOLE_CASE;
 use crate::ends::Sound;

@@ -1,3 +1,6 @@
+//! The card by hand-worked cases: edges and orders of refusals, every byte of the slots,
+//! and what ranges of acknowledgements do.
+
 use super::*;
 use crate::cases::{WHOLE_CASE, WHOLE_CASE_ACKNOWLEDGEMENT};
 use crate::wire::{ack_frame, layout, write_frame};
