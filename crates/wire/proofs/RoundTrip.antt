@@ -7,7 +7,7 @@ use mathlib.Core.Option.{Option, none, some}
 use Prim.Native.Nat.{ℕ, zero, suc, _+_, _-_, _^_, _≤_, _<_}
 use native.Mathlib.Nat.{add-zero}
 use native.Mathlib.Omega.{arith}
-use borrow.Author.Tests.{le-leb, le-ltb, ne-eqb}
+use borrow.Author.Tests.{le-leb, le-ltb, eq-eqb, ne-eqb}
 use lib.Dec.{leb, ltb, eqb}
 use lib.ListN.{length, take, drop, replicate, length-append, length-take}
 use lib.Seq.{take-append-seam, drop-append-add}
@@ -22,6 +22,7 @@ use Rattle.wire.specs.Reading.{
   ackStart,
   ackCount,
   flags,
+  addressed,
   follows,
   dataEnd,
   messageAt,
@@ -167,7 +168,7 @@ messages-back (suc k) before m (n ∷ ms) h f fs =
 
 -- ---- a frame with messages
 
-frame-flags : (to from num : ℕ) (ms : List Message) → flags (frameOf to from num ms) ≡ 1
+pub frame-flags : (to from num : ℕ) (ms : List Message) → flags (frameOf to from num ms) ≡ 1
 unfolding frameOf frameHead field little value
 frame-flags to from num ms = refl
 
@@ -184,6 +185,11 @@ module _ (to from num : ℕ) (to-fits : to < frameSpace) (from-fits : from < fra
   pub frame-number : number (frameOf to from num ms) ≡ num
   unfolding frameOf frameHead field little value
   frame-number = value-little 2 num num-fits
+
+  -- it goes to the one and comes from the other
+  pub frame-addressed : addressed to from (frameOf to from num ms) ≡ true
+  unfolding addressed
+  frame-addressed = rw (eq-eqb _ to frame-destination, eq-eqb _ from frame-source)
 
   -- it acknowledges nothing
   pub frame-acknowledges : (n : ℕ) → acknowledges (frameOf to from num ms) n ≡ false
@@ -231,6 +237,10 @@ module _ (to from num start count : ℕ) (to-fits : to < frameSpace) (from-fits 
   pub ack-source : source (ackFrame to from num start count) ≡ from
   unfolding ackFrame frameHead field little value
   ack-source = value-little 2 from from-fits
+
+  pub ack-addressed : addressed to from (ackFrame to from num start count) ≡ true
+  unfolding addressed
+  ack-addressed = rw (eq-eqb _ to ack-destination, eq-eqb _ from ack-source)
 
   pub ack-number : number (ackFrame to from num start count) ≡ num
   unfolding ackFrame frameHead field little value
