@@ -1,0 +1,329 @@
+-- What demand 3 shuts out: for each wrong pair of ends a list of calls that meets the premises, where the demand's conclusion is
+-- false. And what it does not: a card that adds nothing meets it.
+-- Assumes nothing.
+use Prim.Native.Nat.{ℕ, zero, suc, _<_}
+use native.Mathlib.Omega.{arith}
+use mathlib.Core.Path.{_≡_, refl, ap}
+use mathlib.Core.Bool.{true, cond, _&&_}
+use mathlib.Core.List.{List, [], _∷_}
+use lib.Dec.{eqb, ltb}
+use lib.ListN.{getD, replicate}
+use Rattle.seq.specs.Ring.{distance, frameSpace, transSpace}
+use Rattle.octets.specs.Octets.{field}
+use Rattle.wire.specs.Reading.{number}
+use Rattle.wire.specs.Writing.{ackFrame}
+use Rattle.host.specs.declared.Pair.{Pair}
+use Rattle.host.specs.declared.Answer.{Answer}
+use Rattle.host.specs.declared.Answer.the-variants.{Accepted, Again, NoMessages, Refused}
+use Rattle.host.specs.declared.Acknowledgement.{Acknowledgement}
+use Rattle.host.specs.Host.{Received, unchanged, refused, receiveOf, rangeOf}
+use Rattle.card.specs.declared.Card.{Card}
+use Rattle.delivery.specs.Book.{Expected, expectAccepted, expectAgain, expectNoEffect, enter}
+use Rattle.delivery.specs.System.{
+  CardResult,
+  Implementation,
+  handedOver,
+  specified,
+  Event,
+  opens,
+  adds,
+  seals,
+  reads,
+  shows,
+  chooses,
+  receives,
+  acksFor,
+  byCard,
+  byHost,
+  step,
+  initial,
+}
+use Rattle.delivery.specs.Demand3.{Demand3For}
+use Rattle.delivery.proofs.CardSteps.{stays}
+use Rattle.delivery.proofs.Demand.{Keeps, starts, step-any, demand3-by}
+use Rattle.delivery.proofs.Check.{passes, applied}
+use Rattle.delivery.proofs.Computing.{computing}
+
+-- ---- other ends
+
+abbrev Receiving : Type 0
+Receiving = Pair → List ℕ → List ℕ → Received
+
+-- The rules' ends but for the host's receiving, for its acknowledging, or for one step of the card.
+abbrev withHost : Receiving → Implementation
+withHost r = record {
+  cardOpening = specified .cardOpening;
+  hostOpening = specified .hostOpening;
+  opening = specified .opening;
+  adding = specified .adding;
+  sealing = specified .sealing;
+  reading = specified .reading;
+  showing = specified .showing;
+  choosing = specified .choosing;
+  receiving = r;
+  acknowledging = specified .acknowledging;
+}
+
+abbrev withAcknowledging : (ℕ → ℕ → Answer → ℕ → Acknowledgement) → Implementation
+withAcknowledging a = record {
+  cardOpening = specified .cardOpening;
+  hostOpening = specified .hostOpening;
+  opening = specified .opening;
+  adding = specified .adding;
+  sealing = specified .sealing;
+  reading = specified .reading;
+  showing = specified .showing;
+  choosing = specified .choosing;
+  receiving = specified .receiving;
+  acknowledging = a;
+}
+
+abbrev withCardSteps : (ℕ → ℕ → ℕ → List ℕ → CardResult) → (Card → List ℕ → ℕ → ℕ → List ℕ → CardResult)
+    → (Card → List ℕ → CardResult) → Implementation
+withCardSteps opened added sealed = record {
+  cardOpening = opened;
+  hostOpening = specified .hostOpening;
+  opening = specified .opening;
+  adding = added;
+  sealing = sealed;
+  reading = specified .reading;
+  showing = specified .showing;
+  choosing = specified .choosing;
+  receiving = specified .receiving;
+  acknowledging = specified .acknowledging;
+}
+
+-- The kind of the k-th answer, as a number.
+kind : Expected → ℕ
+kind (expectAccepted c sums) = 1
+kind (expectAgain c) = 2
+kind expectNoEffect = 3
+
+kindAt : ℕ → List Expected → ℕ
+kindAt k xs = kind (getD xs k expectNoEffect)
+
+-- ---- four hosts that answer or write at will
+
+refusesAll : Receiving
+refusesAll h f m = unchanged h m (refused 1 0)
+
+againToAll : Receiving
+againToAll h f m = unchanged h m (Again (record { 0 = number f }))
+
+-- Answers as the rules say, but only its first frame is written.
+writesFirst : Receiving
+writesFirst h f m =
+    let r = receiveOf h f m in
+    record { pair = r .pair; memory = cond (eqb (h .next .0) 0 && eqb (h .marks) 0) (r .memory) m; answer = r .answer }
+
+-- Reports f of the messages, g of the bytes and k of the completed transactions.
+reporting : (ℕ → ℕ) → (ℕ → ℕ) → (ℕ → ℕ) → Answer → Answer
+reporting f g k (Accepted n s) =
+    Accepted n (record { messages = f (s .messages); bytes = g (s .bytes); completed = k (s .completed) })
+reporting f g k (Again n) = Again n
+reporting f g k NoMessages = NoMessages
+reporting f g k (Refused r) = Refused r
+
+invents : (ℕ → ℕ) → (ℕ → ℕ) → (ℕ → ℕ) → Receiving
+invents f g k h s m =
+    let r = receiveOf h s m in
+    record { pair = r .pair; memory = r .memory; answer = reporting f g k (r .answer) }
+
+-- Two transactions of one byte each, a frame each, delivered in order.
+inOrder : List Event
+inOrder =
+    opens 1 0 1 ∷ adds 0 4 (9 ∷ []) ∷ seals ∷ shows 0 ∷ receives 0
+    ∷ opens 1 5 1 ∷ adds 1 9 (9 ∷ []) ∷ seals ∷ shows 1 ∷ receives 1 ∷ []
+
+-- The premises do not depend on the host.
+met : (r : Receiving) → passes (withHost r) (replicate 10 0) inOrder ≡ true
+unfolding computing inOrder
+met r = refl
+
+not-refusesAll : Demand3For (withHost refusesAll) → ⊥
+unfolding computing inOrder refusesAll kind kindAt
+not-refusesAll d =
+    let z : _≡_ {A = ℕ} 3 1 = ap (kindAt 0) (applied _ d (replicate 10 0) inOrder (met refusesAll) .answersMatch) in
+    omega arith
+
+not-againToAll : Demand3For (withHost againToAll) → ⊥
+unfolding computing inOrder againToAll kind kindAt
+not-againToAll d =
+    let z : _≡_ {A = ℕ} 2 1 = ap (kindAt 0) (applied _ d (replicate 10 0) inOrder (met againToAll) .answersMatch) in
+    omega arith
+
+not-writesFirst : Demand3For (withHost writesFirst) → ⊥
+unfolding computing inOrder writesFirst
+not-writesFirst d =
+    let z : _≡_ {A = ℕ} 0 9 =
+    ap (λ m. getD m 9 0) (applied _ d (replicate 10 0) inOrder (met writesFirst) .memoryAgrees) in
+    omega arith
+
+messagesOf : Expected → ℕ
+messagesOf (expectAccepted c s) = s .messages
+messagesOf (expectAgain c) = 0
+messagesOf expectNoEffect = 0
+
+bytesIn : Expected → ℕ
+bytesIn (expectAccepted c s) = s .bytes
+bytesIn (expectAgain c) = 0
+bytesIn expectNoEffect = 0
+
+completedIn : Expected → ℕ
+completedIn (expectAccepted c s) = s .completed
+completedIn (expectAgain c) = 0
+completedIn expectNoEffect = 0
+
+-- It reports right numbers.
+not-invents : (f g k : ℕ → ℕ) → Demand3For (withHost (invents f g k)) → (f 1 ≡ 1) × (g 1 ≡ 1) × (k 1 ≡ 1)
+unfolding computing inOrder invents reporting messagesOf bytesIn completedIn
+not-invents f g k d =
+    let e = applied _ d (replicate 10 0) inOrder (met (invents f g k)) .answersMatch in (
+      ap (λ xs. messagesOf (getD xs 0 expectNoEffect)) e,
+      ap (λ xs. bytesIn (getD xs 0 expectNoEffect)) e,
+      ap (λ xs. completedIn (getD xs 0 expectNoEffect)) e,
+    )
+
+-- ---- hosts with one fault
+
+-- The last place of the transaction window is refused.
+windowShort : Receiving
+windowShort h f m =
+    cond (ltb (distance transSpace (h .lowest .0) (field f 10 4)) 31) (receiveOf h f m) (unchanged h m (refused 7 0))
+
+manyOpens : ℕ → List Event → List Event
+manyOpens zero xs = xs
+manyOpens (suc n) xs = opens 0 0 0 ∷ manyOpens n xs
+
+lastOfWindow : List Event
+lastOfWindow = manyOpens 32 (adds 31 0 [] ∷ seals ∷ shows 0 ∷ receives 0 ∷ [])
+
+not-windowShort : Demand3For (withHost windowShort) → ⊥
+unfolding computing lastOfWindow manyOpens windowShort kind kindAt
+not-windowShort d =
+    let z : _≡_ {A = ℕ} 3 1 = ap (kindAt 0) (applied _ d (replicate 4 0) lastOfWindow refl .answersMatch) in
+    omega arith
+
+-- It does not remember which frames it took.
+forgets : Receiving
+forgets h f m =
+    let r = receiveOf h f m in
+    record {
+      pair = record {
+        own = h .own;
+        peer = h .peer;
+        next = h .next;
+        marks = h .marks;
+        lowest = r .pair .lowest;
+        closed = r .pair .closed;
+        table = r .pair .table;
+      };
+      memory = r .memory;
+      answer = r .answer;
+    }
+
+twice : List Event
+twice = opens 2 0 1 ∷ adds 0 4 (9 ∷ []) ∷ seals ∷ shows 0 ∷ receives 0 ∷ receives 0 ∷ []
+
+not-forgets : Demand3For (withHost forgets) → ⊥
+unfolding computing twice forgets kind kindAt
+not-forgets d =
+    let z : _≡_ {A = ℕ} 1 2 = ap (kindAt 1) (applied _ d (replicate 10 0) twice refl .answersMatch) in
+    omega arith
+
+-- With a frame received ahead, it takes the frame that fills the hole for an old copy: it answers "again" and throws it away.
+takesForOld : Receiving
+takesForOld h f m =
+    cond (eqb (h .marks) 0) (receiveOf h f m) (unchanged h m (Again (record { 0 = number f })))
+
+swapped : List Event
+swapped =
+    opens 2 0 1 ∷ adds 0 4 (9 ∷ []) ∷ seals ∷ adds 0 5 (9 ∷ []) ∷ seals
+    ∷ shows 0 ∷ shows 1 ∷ receives 1 ∷ receives 0 ∷ []
+
+not-takesForOld : Demand3For (withHost takesForOld) → ⊥
+unfolding computing swapped takesForOld kind kindAt
+not-takesForOld d =
+    let z : _≡_ {A = ℕ} 2 1 = ap (kindAt 1) (applied _ d (replicate 6 0) swapped refl .answersMatch) in
+    omega arith
+
+-- It acknowledges the next number along with the one that it took.
+acksTwo : ℕ → ℕ → Answer → ℕ → Acknowledgement
+acksTwo own peer a num = record {
+  due = ltb 0 (rangeOf a .count);
+  frame = ackFrame peer own num (rangeOf a .start) (suc (rangeOf a .count));
+}
+
+oneOfTwo : List Event
+oneOfTwo =
+    opens 2 0 1 ∷ adds 0 4 (9 ∷ []) ∷ seals ∷ adds 0 5 (9 ∷ []) ∷ seals ∷ shows 0 ∷ receives 0 ∷ reads 0 ∷ []
+
+not-acksTwo : Demand3For (withAcknowledging acksTwo) → ⊥
+unfolding computing oneOfTwo acksTwo
+not-acksTwo d =
+    let z : _≡_ {A = ℕ} 2 1 = applied _ d (replicate 6 0) oneOfTwo refl .releasedAgrees in
+    omega arith
+
+-- ---- cards
+
+-- It releases what it seals.
+releasesEarly : Card → List ℕ → CardResult
+releasesEarly c s =
+    let r = specified .sealing c s in
+    let k = r .card in
+    record {
+      refusal = r .refusal;
+      card = record {
+        own = k .own;
+        peer = k .peer;
+        limit = k .limit;
+        used = k .used;
+        last = k .last;
+        window = record {
+          acked = k .window .acked;
+          next = k .window .next;
+          base = k .window .next;
+          sizes = k .window .sizes;
+        };
+        sendings = k .sendings;
+      };
+      slots = r .slots;
+      part = r .part;
+    }
+
+sealedOne : List Event
+sealedOne = opens 0 0 0 ∷ adds 0 0 [] ∷ seals ∷ []
+
+not-releasesEarly : Demand3For (withCardSteps (specified .cardOpening) (specified .adding) releasesEarly) → ⊥
+unfolding computing sealedOne releasesEarly
+not-releasesEarly d =
+    let z : _≡_ {A = ℕ} 1 0 = applied _ d (replicate 4 0) sealedOne refl .releasedAgrees in
+    omega arith
+
+-- Its opening takes its own ID for its peer's.
+swapsIds : ℕ → ℕ → ℕ → List ℕ → CardResult
+swapsIds own peer limit slots = specified .cardOpening peer own limit slots
+
+not-swapsIds : Demand3For (withCardSteps swapsIds (specified .adding) (specified .sealing)) → ⊥
+unfolding computing inOrder swapsIds kind kindAt
+not-swapsIds d =
+    let z : _≡_ {A = ℕ} 3 1 = ap (kindAt 0) (applied _ d (replicate 10 0) inOrder refl .answersMatch) in
+    omega arith
+
+-- A card that adds nothing meets demand 3: the demand asks nothing to be sent. (Nor does it speak of the numbers that opening and
+-- sealing hand back: a CardResult has none.)
+abbrev addsNothing : Implementation
+addsNothing = withCardSteps (specified .cardOpening) (λ c slots t at bytes. handedOver 23 c slots []) (specified .sealing)
+
+adds-nothing : Demand3For addsNothing
+unfolding step enter byCard byHost acksFor initial
+adds-nothing = demand3-by addsNothing starts keeps
+  where
+    keeps : (cardId hostId : ℕ) (p : cardId < frameSpace) (q : hostId < frameSpace) → Keeps cardId hostId p q addsNothing
+    keeps c h p q w b f (opens count target value) t i k = step-any c h p q w b f (opens count target value) t i k
+    keeps c h p q w b f (adds n at bytes) t i k = stays c h p q w b f
+    keeps c h p q w b f seals t i k = step-any c h p q w b f seals t i k
+    keeps c h p q w b f (reads n) t i k = step-any c h p q w b f (reads n) t i k
+    keeps c h p q w b f (shows n) t i k = step-any c h p q w b f (shows n) t i k
+    keeps c h p q w b f (chooses ack) t i k = step-any c h p q w b f (chooses ack) t i k
+    keeps c h p q w b f (receives n) t i k = step-any c h p q w b f (receives n) t i k

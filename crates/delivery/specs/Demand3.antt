@@ -1,0 +1,243 @@
+-- Demand 3: its premises and what follows from them, over a list of calls from two fresh ends.
+use Prim.Native.Nat.{ℕ, zero, suc, _+_, _%_, _≤_, _<_}
+use mathlib.Core.Path.{_≡_}
+use mathlib.Core.Bool.{Bool, true, false, cond, _&&_}
+use mathlib.Core.List.{List, [], _∷_, map, List·Memᴰ}
+use mathlib.Core.Option.{Option, none, some}
+use lib.Dec.{eqb, leb, ltb}
+use lib.ListN.{length, getElem?}
+use Rattle.seq.specs.Ring.{frameSpace, transSpace}
+use Rattle.wire.specs.Format.{needed}
+use Rattle.host.specs.declared.Sums.{Sums}
+use Rattle.host.specs.declared.Opened.{Opened}
+use Rattle.host.specs.declared.Answer.{Answer}
+use Rattle.host.specs.declared.Answer.the-variants.{Accepted, Again, NoMessages, Refused}
+use Rattle.send_window.specs.Window.{unreleased}
+use Rattle.delivery.specs.System.{
+  CardResult,
+  Implementation,
+  specified,
+  Event,
+  opens,
+  adds,
+  seals,
+  reads,
+  shows,
+  chooses,
+  receives,
+  System,
+  Observation,
+  initial,
+  run,
+}
+use Rattle.delivery.specs.Book.{
+  MessageRecord,
+  Transaction,
+  HandOut,
+  nothingHanded,
+  lentAck,
+  frameCopy,
+  Expected,
+  expectAccepted,
+  expectAgain,
+  expectNoEffect,
+  Book,
+  frameAt,
+  releasedCount,
+  lowestNotAccepted,
+  acceptedMessages,
+  addedMessages,
+  ofTransaction,
+  transactionAt,
+  finished,
+  Write,
+  writesOf,
+  bookMemory,
+  serialMemory,
+  bytesOf,
+  completeCount,
+  bookStep,
+  emptyBook,
+  bookOf,
+}
+
+-- ---- premises
+
+-- The IDs are of their type, and neither opening is refused.
+pub record BothOpen (cardId hostId : ℕ) (card : CardResult) (host : Opened) : Type 0 where
+  pub cardFits : cardId < frameSpace
+  pub hostFits : hostId < frameSpace
+  pub cardOpens : card .refusal ≡ 0
+  pub hostOpens : host .refusal .number ≡ 0
+
+-- The arguments are of the calls' types: 16-bit and 32-bit numbers. (Bytes may be any.)
+unfoldable pub typed : Event → Bool
+typed (opens count target value) = ltb count 65536 && (ltb target transSpace && ltb value transSpace)
+typed (adds t at bytes) = ltb t transSpace && ltb at transSpace
+typed seals = true
+typed (reads k) = true
+typed (shows n) = ltb n frameSpace
+typed (chooses ack) = true
+typed (receives k) = true
+
+unfoldable pub allTyped : List Event → Bool
+allTyped [] = true
+allTyped (x ∷ xs) = typed x && allTyped xs
+
+-- Nothing arrives more than 32,768 numbers late, each arrival taken with the book as it stands then.
+unfoldable pub frameInTime : Book → Option HandOut → Bool
+frameInTime b none = true
+frameInTime b (some nothingHanded) = true
+frameInTime b (some lentAck) = true
+frameInTime b (some (frameCopy c)) = leb (lowestNotAccepted b) (c + 32768)
+
+unfoldable pub ackInTime : Book → Option ℕ → Bool
+ackInTime b none = true
+ackInTime b (some c) = leb (releasedCount b) (c + 32768)
+
+unfoldable pub inTime : Book → Event → Bool
+inTime b (opens count target value) = true
+inTime b (adds t at bytes) = true
+inTime b seals = true
+inTime b (reads k) = ackInTime b (getElem? (b .acksDue) k)
+inTime b (shows n) = true
+inTime b (chooses ack) = true
+inTime b (receives k) = frameInTime b (getElem? (b .handOuts) k)
+
+unfoldable pub notTooLate : Book → List Observation → Bool
+notTooLate b [] = true
+notTooLate b (s ∷ ss) = inTime b (s .event) && notTooLate (bookStep b s) ss
+
+-- Two writes have no byte in common.
+abbrev pub Covers : Write → ℕ → Type 0
+Covers w x = (w .at ≤ x) × (x < w .at + length (w .bytes))
+
+unfoldable pub Apart : Write → Write → Type 0
+Apart w v = (x : ℕ) → Covers w x → Covers v x → ⊥
+
+abbrev pub ApartFrom : Write → List Write → Type 0
+ApartFrom w [] = Unit {0}
+ApartFrom w (v ∷ vs) = Apart w v × ApartFrom w vs
+
+abbrev pub AllApart : List Write → List Write → Type 0
+AllApart [] vs = Unit {0}
+AllApart (w ∷ ws) vs = ApartFrom w vs × AllApart ws vs
+
+abbrev pub NoByteTwice : List Write → Type 0
+NoByteTwice [] = Unit {0}
+NoByteTwice (w ∷ ws) = ApartFrom w ws × NoByteTwice ws
+
+-- What transaction i has written: its data in accepted frames, and its completion if that is due.
+abbrev pub writesMade : Book → ℕ → List Write
+writesMade b i = writesOf (transactionAt b i) i (acceptedMessages b)
+
+-- What the list has to keep to; b is the book after it.
+pub record WritesAllowed (b : Book) : Type 0 where
+  -- every write lies inside memory, also one of no bytes and a completion that is not due yet
+  pub dataInside : (e : MessageRecord) → List·Memᴰ e (addedMessages b) → e .at + length (e .bytes) ≤ length (b .start)
+  pub completionInside : (d : Transaction) → List·Memᴰ d (b .transactions) → d .target + 4 ≤ length (b .start)
+  -- no transaction writes one byte twice
+  pub onceEach : (i : ℕ) → i < length (b .transactions) → NoByteTwice (writesMade b i)
+  -- no two that write a common byte are opened and unfinished together: i, opened first, was unfinished when j was opened
+  pub apartTogether : (i j : ℕ) → i < j → j < length (b .transactions) → List·Memᴰ i (transactionAt b j .unfinishedAtOpening)
+      → AllApart (writesMade b i) (writesMade b j)
+
+-- ---- what follows
+
+-- What a list leaves that the demand speaks of: the host's answers and memory, and how many sealed frames the card has not
+-- released.
+pub record Outcome : Type 0 where
+  pub answers : List Answer
+  pub memory : List ℕ
+  pub unreleasedFrames : ℕ
+
+abbrev pub outcomeOf : System → Outcome
+outcomeOf w = record { answers = w .answers; memory = w .memory; unreleasedFrames = unreleased (w .card .window) }
+
+-- What an answer comes to. Which refusal is given to what carries no message is left open.
+unfoldable pub kindOf : Answer → Expected
+kindOf (Accepted n sums) = expectAccepted (n .0) sums
+kindOf (Again n) = expectAgain (n .0)
+kindOf NoMessages = expectNoEffect
+kindOf (Refused r) = expectNoEffect
+
+-- The answer that the book expects, with the frame's number in the place of its count.
+unfoldable pub numberedAs : Expected → Expected
+numberedAs (expectAccepted c sums) = expectAccepted (c % frameSpace) sums
+numberedAs (expectAgain c) = expectAgain (c % frameSpace)
+numberedAs expectNoEffect = expectNoEffect
+
+-- How often a copy of frame c is answered "accepted".
+unfoldable pub accepts : ℕ → Expected → Bool
+accepts c (expectAccepted x sums) = eqb x c
+accepts c (expectAgain x) = false
+accepts c expectNoEffect = false
+
+unfoldable pub timesAccepted : ℕ → List Expected → ℕ
+timesAccepted c [] = 0
+timesAccepted c (r ∷ rs) = cond (accepts c r) 1 0 + timesAccepted c rs
+
+-- Sums over the accepted answers.
+unfoldable pub sumOver : (Sums → ℕ) → List Answer → ℕ
+sumOver f [] = 0
+sumOver f (Accepted n sums ∷ answers) = f sums + sumOver f answers
+sumOver f (Again n ∷ answers) = sumOver f answers
+sumOver f (NoMessages ∷ answers) = sumOver f answers
+sumOver f (Refused r ∷ answers) = sumOver f answers
+
+abbrev pub messagesSum : List Answer → ℕ
+messagesSum = sumOver (λ s. s .messages)
+
+abbrev pub bytesSum : List Answer → ℕ
+bytesSum = sumOver (λ s. s .bytes)
+
+abbrev pub completeSum : List Answer → ℕ
+completeSum = sumOver (λ s. s .completed)
+
+-- The messages that all transactions take together, and the data bytes of those from i on, each transaction's counted once.
+unfoldable pub neededBy : List Transaction → ℕ
+neededBy [] = 0
+neededBy (d ∷ ds) = needed (d .count) + neededBy ds
+
+unfoldable pub bytesBy : ℕ → List Transaction → List MessageRecord → ℕ
+bytesBy i [] es = 0
+bytesBy i (d ∷ ds) es = bytesOf (ofTransaction i es) + bytesBy (suc i) ds es
+
+-- Once all opened transactions are finished.
+pub record WhenAllFinished (o : Outcome) (b : Book) : Type 0 where
+  pub messagesWhole : messagesSum (o .answers) ≡ neededBy (b .transactions)
+  pub bytesWhole : bytesSum (o .answers) ≡ bytesBy 0 (b .transactions) (addedMessages b)
+  pub completeWhole : completeSum (o .answers) ≡ length (b .transactions)
+  pub memoryInTurn : o .memory ≡ serialMemory b
+
+pub record Guarantees (o : Outcome) (b : Book) : Type 0 where
+  -- each arrival is answered as the book says, and of the answers to copies of a sealed frame that reached the host exactly one
+  -- is "accepted"
+  pub answersMatch : map kindOf (o .answers) ≡ map numberedAs (b .expected)
+  pub acceptedOnce : (c : ℕ) → frameAt b c .accepted ≡ true → timesAccepted c (b .expected) ≡ 1
+  -- the card released only such frames
+  pub releasedAgrees : length (b .frames) ≡ releasedCount b + o .unreleasedFrames
+  pub releasedAccepted : (c : ℕ) → c < releasedCount b → frameAt b c .accepted ≡ true
+  -- no transaction has more messages than its count, so that "as many as it takes" is exactly as many
+  pub noneOver : (i : ℕ) → i < length (b .transactions)
+      → length (ofTransaction i (addedMessages b)) ≤ needed (transactionAt b i .count)
+  -- memory, and the sums of the accepted answers
+  pub memoryAgrees : o .memory ≡ bookMemory b
+  pub messagesAgree : messagesSum (o .answers) ≡ length (acceptedMessages b)
+  pub bytesAgree : bytesSum (o .answers) ≡ bytesOf (acceptedMessages b)
+  pub completeAgree : completeSum (o .answers) ≡ completeCount 0 (b .transactions) (acceptedMessages b)
+  pub whenAllFinished : ((i : ℕ) → i < length (b .transactions) → finished b i ≡ true) → WhenAllFinished o b
+
+-- Demand 3, for any two ends.
+unfoldable pub Demand3For : Implementation → Type 0
+Demand3For e =
+    (cardId hostId limit : ℕ) (slots memory : List ℕ) (events : List Event)
+    → BothOpen cardId hostId (e .cardOpening cardId hostId limit slots) (e .hostOpening hostId cardId)
+    → let r = run e (initial e cardId hostId limit slots memory) events in
+    let b = bookOf memory (r .observations) in
+    allTyped events ≡ true → notTooLate (emptyBook memory) (r .observations) ≡ true → WritesAllowed b
+    → Guarantees (outcomeOf (r .system)) b
+
+-- Demand 3: for the ends that the rules describe. proofs/Demand.antt has a term of this type.
+abbrev pub Demand3 : Type 0
+Demand3 = Demand3For specified

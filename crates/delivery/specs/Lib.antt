@@ -1,0 +1,3 @@
+pub mod System
+pub mod Book
+pub mod Demand3
