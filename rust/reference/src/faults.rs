@@ -68,6 +68,8 @@ faults! {
     CardFinishedByWindow => Comparison,
     /// X2: one whose last frame's number is not behind the lowest unreleased one does.
     CardFinishedByHalf => Comparison,
+    /// C18: one whose last frame is the lowest unreleased one counts as finished.
+    CardFinishesEarly => Demand3,
     /// X3: the messages before a refused one are written.
     HostWritesBeforeJudging => Comparison,
     /// X4: the host throws a repeat away without a word.
@@ -116,6 +118,11 @@ impl Faulty {
             },
             Some(Fault::CardTransactions33) => Windows {
                 transactions: 33,
+                ..rules
+            },
+            // It has its own account of what is finished, which must be the one to refuse.
+            Some(Fault::CardFinishesEarly) => Windows {
+                transactions: 64,
                 ..rules
             },
             Some(Fault::CardTransactions31) => Windows {

@@ -3,9 +3,10 @@
 //! script that finds a fault is one on which the ends without a fault pass.
 
 use reference::calls::Program;
-use reference::demand::{Breach, Care};
+use reference::demand::{Breach, Care, Setting};
 use reference::ends::{Sound, Start};
 use reference::faults::{Fault, Faulty, FoundBy};
+use reference::list::Call;
 use reference::rng::Rng;
 use reference::script::{Wild, of_list};
 use reference::simulator::{Failure, Profile, check_list, come_round, simulate};
@@ -20,6 +21,8 @@ enum Lists {
     NearTheEnd,
     /// One of fresh ends that goes on until the numbers come round.
     Long,
+    /// The one below, in which a card's window is full.
+    FullWindow,
 }
 
 /// Lists that are tried until one finds a fault, and lists that must find none.
@@ -42,30 +45,78 @@ fn profile(seed: u64, lists: Lists) -> Profile {
             },
             ..any
         },
-        Lists::Long => Profile::long(0),
+        Lists::Long | Lists::FullWindow => Profile::long(0),
     }
+}
+
+/// All 32 transactions are open, and the lowest one's frame is the lowest unreleased one
+/// and not accepted, when one more is asked for and sent.
+fn full_window() -> (Setting, Vec<Call>) {
+    let add = |transaction| Call::Add {
+        transaction,
+        address: 0,
+        data: Vec::new(),
+    };
+    let mut calls: Vec<Call> = (0..32)
+        .map(|place| Call::Open {
+            count: 1,
+            address: 4 * place,
+            value: place,
+        })
+        .collect();
+    calls.extend([add(1), Call::Seal, Call::Show(0), Call::Receive(0)]);
+    calls.extend([add(0), Call::Seal, Call::Read(0)]);
+    calls.push(Call::Open {
+        count: 1,
+        address: 128,
+        value: 0,
+    });
+    calls.extend([add(32), Call::Seal, Call::Show(2), Call::Receive(1)]);
+    let setting = Setting {
+        memory: vec![0; 132],
+        ..come_round().0
+    };
+    (setting, calls)
 }
 
 /// The first of so many lists that breaks the demand on these ends, and how. A list that
 /// keeps no premise on ends without a fault is passed over.
 fn first_breach(ends: Faulty, lists: Lists, count: u64) -> Option<(Breach, usize)> {
-    let calls = match lists {
-        Lists::Long => CALLS_OF_LONG,
-        _ => CALLS,
-    };
     (0..count).find_map(|seed| {
-        let profile = profile(seed, lists);
-        let run = simulate(&ends, seed, profile, calls, false, Care::LongList);
-        let breach = run.breach?;
-        let sound = check_list(&Sound, &run.setting, &run.calls, Care::LongList);
-        let fault_free = check_list(&Faulty(None), &run.setting, &run.calls, Care::LongList);
+        let (breach, setting, calls) = breach_of(ends, lists, seed)?;
+        let sound = check_list(&Sound, &setting, &calls, Care::LongList);
+        let fault_free = check_list(&Faulty(None), &setting, &calls, Care::LongList);
         assert_eq!(sound, fault_free);
         match sound {
-            Ok(()) => Some((breach, run.calls.len())),
+            Ok(()) => Some((breach, calls.len())),
             Err(Failure::Premise) => None,
             Err(failure) => panic!("seed {seed}: without a fault {failure:?}"),
         }
     })
+}
+
+/// What the seed's list breaks on these ends, with the list.
+fn breach_of(ends: Faulty, lists: Lists, seed: u64) -> Option<(Breach, Setting, Vec<Call>)> {
+    let calls = match lists {
+        Lists::FullWindow => {
+            let (setting, calls) = full_window();
+            return match check_list(&ends, &setting, &calls, Care::EveryCall) {
+                Err(Failure::Breach(_, breach)) => Some((breach, setting, calls)),
+                _ => None,
+            };
+        }
+        Lists::Long => CALLS_OF_LONG,
+        _ => CALLS,
+    };
+    let run = simulate(
+        &ends,
+        seed,
+        profile(seed, lists),
+        calls,
+        false,
+        Care::LongList,
+    );
+    run.breach.map(|breach| (breach, run.setting, run.calls))
 }
 
 fn assert_found_by_demand_3(fault: Fault, lists: Lists, sentence: fn(&Breach) -> bool) {
@@ -114,6 +165,7 @@ found_by_demand_3! {
     x1_a_host_that_compares_transactions_by_less_than:
         HostTransactionsByLessThan, NearTheEnd, is_answer;
     x1_a_card_that_compares_frames_by_less_than: CardAcknowledgesByLessThan, Long, is_released;
+    c18_a_card_that_finishes_a_frame_early: CardFinishesEarly, FullWindow, is_answer;
     x4_a_host_that_is_silent_on_repeats: HostSilentOnRepeats, Fresh, is_answer;
     a_host_with_a_window_of_63_frames: HostFrames63, Fresh, is_answer;
     a_host_with_a_window_of_31_transactions: HostTransactions31, Fresh, is_answer;

@@ -224,7 +224,11 @@ fn windows(script: &mut Script) {
     }
     script.read(0, 31);
     script.line("open 1 0 0", "R 20");
-    script.frame(0, 31);
+    script.line("add 0 0 -", "ok");
+    script.read(30, 2);
+    script.line("open 1 0 0", "R 20");
+    script.line("seal", "f 31");
+    script.read(30, 1);
     script.line("open 1 0 0", "R 20");
     script.read(31, 1);
     script.line("open 1 0 0", "t 32");

@@ -301,6 +301,28 @@ fn thirty_two_transactions_from_the_lowest_unfinished_one() {
     assert_eq!(ready.add(0, 0), Err(23), "finished long ago");
 }
 
+/// Its last frame has to be released, not just those before it.
+#[test]
+fn a_transaction_is_not_finished_before_its_last_frame_is_released() {
+    let mut ready = Ready::new(34);
+    (0..32).for_each(|_| drop(ready.open(1)));
+    ready.seal_frames(1, 1);
+    ready.seal_frames(0, 1);
+    ready.acknowledge(0, 1);
+    assert_eq!(ready.card.lowest_unreleased(), 1);
+    assert_eq!(ready.card.open_transaction(1, 0, 0), Err(20));
+    ready.acknowledge(1, 1);
+    assert_eq!((ready.open(1), ready.open(1)), (32, 33));
+    assert_eq!(ready.card.open_transaction(1, 0, 0), Err(20));
+    // Neither sealed nor released.
+    ready.add(2, 0).unwrap();
+    ready.acknowledge(2, 1);
+    assert_eq!(ready.card.open_transaction(1, 0, 0), Err(20));
+    ready.seal().unwrap();
+    ready.acknowledge(2, 1);
+    assert_eq!(ready.open(1), 34);
+}
+
 #[test]
 fn frames_are_released_in_order() {
     let mut ready = Ready::new(34);

@@ -41,6 +41,7 @@ impl FaultyCard {
         let ahead = entry.last_frame.wrapping_sub(self.card.lowest_unreleased());
         let released = match self.fault {
             Some(Fault::CardFinishedByWindow) => ahead >= 64,
+            Some(Fault::CardFinishesEarly) => ahead == 0 || ahead >= 32_768,
             _ => ahead >= 32_768,
         };
         entry.left == 0 && released
@@ -49,7 +50,9 @@ impl FaultyCard {
     fn judges_by_number(&self) -> bool {
         matches!(
             self.fault,
-            Some(Fault::CardFinishedByWindow | Fault::CardFinishedByHalf)
+            Some(
+                Fault::CardFinishedByWindow | Fault::CardFinishedByHalf | Fault::CardFinishesEarly
+            )
         )
     }
 
