@@ -305,7 +305,9 @@ fn thirty_two_transactions_from_the_lowest_unfinished_one() {
 #[test]
 fn a_transaction_is_not_finished_before_its_last_frame_is_released() {
     let mut ready = Ready::new(34);
-    (0..32).for_each(|_| drop(ready.open(1)));
+    for number in 0..32 {
+        assert_eq!(ready.open(1), number);
+    }
     ready.seal_frames(1, 1);
     ready.seal_frames(0, 1);
     ready.acknowledge(0, 1);
