@@ -68,6 +68,8 @@ faults! {
     CardFinishedByWindow => Comparison,
     /// X2: one whose last frame's number is not behind the lowest unreleased one does.
     CardFinishedByHalf => Comparison,
+    /// C16: an acknowledgement counts for all frames up to its number.
+    CardAcknowledgesThrough => Demand3,
     /// C18: one whose last frame is the lowest unreleased one counts as finished.
     CardFinishesEarly => Demand3,
     /// X3: the messages before a refused one are written.

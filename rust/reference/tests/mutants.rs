@@ -165,6 +165,8 @@ found_by_demand_3! {
     x1_a_host_that_compares_transactions_by_less_than:
         HostTransactionsByLessThan, NearTheEnd, is_answer;
     x1_a_card_that_compares_frames_by_less_than: CardAcknowledgesByLessThan, Long, is_released;
+    c16_a_card_that_releases_what_is_not_acknowledged:
+        CardAcknowledgesThrough, Fresh, is_released;
     c18_a_card_that_finishes_a_frame_early: CardFinishesEarly, FullWindow, is_answer;
     x4_a_host_that_is_silent_on_repeats: HostSilentOnRepeats, Fresh, is_answer;
     a_host_with_a_window_of_63_frames: HostFrames63, Fresh, is_answer;

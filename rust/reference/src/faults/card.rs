@@ -70,6 +70,21 @@ impl FaultyCard {
         }
         Ok(())
     }
+
+    /// Reads a range from the lowest unreleased frame up to the acknowledged one.
+    fn read_through(&mut self, frame: &[u8]) -> Result<(), u8> {
+        let lowest = self.card.lowest_unreleased();
+        let unreleased = self.card.unreleased() as u16;
+        self.card.read(frame)?;
+        let header = wire::layout(frame)?.header;
+        let ahead = header.ack_start.wrapping_sub(lowest);
+        if header.ack_count > 0 && ahead < unreleased {
+            let (own, peer) = (header.destination, header.source);
+            let through = wire::ack_frame(own, peer, 0, lowest, ahead as u8 + 1);
+            self.card.read(&through)?;
+        }
+        Ok(())
+    }
 }
 
 impl CardEnd for FaultyCard {
@@ -110,10 +125,10 @@ impl CardEnd for FaultyCard {
     }
 
     fn read(&mut self, frame: &[u8]) -> Result<(), u8> {
-        if self.fault == Some(Fault::CardAcknowledgesByLessThan) {
-            self.read_by_less_than(frame)?;
-        } else {
-            self.card.read(frame)?;
+        match self.fault {
+            Some(Fault::CardAcknowledgesByLessThan) => self.read_by_less_than(frame)?,
+            Some(Fault::CardAcknowledgesThrough) => self.read_through(frame)?,
+            _ => self.card.read(frame)?,
         }
         while let Some(front) = self.believed.front()
             && self.believes_finished(front)
