@@ -47,6 +47,7 @@ use Rattle.host.specs.Host.{
   tallyOf,
 }
 use Rattle.host.specs.Passes.{
+  allDue,
   Course,
   stopped,
   through,
@@ -283,7 +284,7 @@ clear-on due i word done fits clear e j l =
     rw e (noted-other due i fits j done (λ q. omega (arith, q)) ∙ clear j (omega arith))
 
 -- all messages marked from the start
-pub all-noted : (j : ℕ) → j < 384 → dueAt (replicate 6 18446744073709551615) j ≡ true
+pub all-noted : (j : ℕ) → j < 384 → dueAt allDue j ≡ true
 unfolding dueAt marksOf
 all-noted j l =
     ap (λ (w : ℕ). mark w (j % 64)) (word-at 6 (j / 64) (omega arith)) ∙ mark-marksOf 64 (λ (i : ℕ). true) (j % 64) (omega arith)
@@ -294,7 +295,7 @@ all-noted j l =
     word-at (suc n) (suc k) h = word-at n k (omega arith)
 
 pub noting-all : (i : ℕ) (done : Bool) → i < 384 → done ≡ true
-    → Noting (replicate 6 18446744073709551615) i (replicate 6 18446744073709551615) done
+    → Noting allDue i allDue done
 noting-all i done l d = record { noted-now = all-noted i l ∙ sym d; kept = λ j k. refl }
 
 -- where the judging stands: i messages are judged, with b data bytes and c completions; `left` are the others, at an offset

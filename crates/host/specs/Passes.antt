@@ -93,6 +93,10 @@ LayoutWhole f j =
 abbrev pub NoTrace : Verdict → Open → Type 0
 NoTrace v o = (v .refusal ≡ 0) × (v .done ≡ true) × (v .slot ≡ o)
 
+-- Marks of all the messages that a frame can have.
+abbrev pub allDue : List ℕ
+allDue = replicate 6 18446744073709551615
+
 -- A frame of such messages alone, judged: every one is due, and the table stays.
 abbrev pub allClosing : Closing → List Open → Judged
 allClosing c table = record {
@@ -103,7 +107,7 @@ allClosing c table = record {
   lowest = c .lowest;
   closed = c .closed;
   table = table;
-  due = replicate 6 18446744073709551615;
+  due = allDue;
 }
 
 abbrev pub ClosesFrame : List ℕ → Transactions → ℕ → Closing → Type 0

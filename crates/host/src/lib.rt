@@ -162,6 +162,9 @@ pub fn acknowledge(own: u16, peer: u16, answer: Answer, number: FrameNo) -> Ackn
     }
 }
 
+// A word of marks with all of them set.
+const ALL_MARKS: u64 = 18446744073709551615;
+
 // ---- the first pass: every message judged, nothing written
 
 // The place in the table of a message's transaction.
@@ -172,6 +175,7 @@ fn place_of(h: MessageHeader) -> usize
     (trans.0 % 32) as usize
 }
 
+// Whether two places hold the same.
 fn is_same(a: Open, b: Open) -> bool
     ensures { λ r. ⌜ (r ≡ true → a ≡ b) ⌝ }
 {
@@ -187,7 +191,7 @@ fn is_same(a: Open, b: Open) -> bool
     a.value == b.value
 }
 
-// Whether a message completes its transaction and leaves the transaction's place in the table as it is.
+// Whether a message completes its transaction and leaves the transaction's place in the table as it is. Only a yes is relied on.
 fn leaves_no_trace(v: Verdict, o: Open) -> bool
     ensures { λ r. ⌜ (r ≡ true → NoTrace v o) ⌝ }
 {
@@ -201,8 +205,8 @@ fn leaves_no_trace(v: Verdict, o: Open) -> bool
     is_same(slot, o)
 }
 
-// What is found of a frame whose messages all complete their transaction and leave no trace in the table: most frames of short
-// transactions, and no table is copied for them. Of any other frame no messages.
+// What is found of a frame whose messages all complete their transaction and leave no trace in the table; of any other frame no
+// messages. The table is then not made anew: for short transactions its copies would cost more than the judging.
 struct Closing {
     pub messages: u32,
     pub bytes: u32,
@@ -272,7 +276,7 @@ struct Judged {
     pub due: [u64; 6],
 }
 
-// Message number messages is refused.
+// A message is refused: the one at the index messages.
 fn stopped(refusal: u8, messages: u32, lowest: TransNo, closed: u32, table: [Open; 32]) -> Judged
     ensures { λ r. ⌜ (r .refusal ≡ refusal) × (r .messages ≡ messages) ⌝ }
 {
@@ -477,12 +481,13 @@ fn refuse(pair: Pair, f: &[u8], stop: u8, place: u32) -> Stepped
     refusing(pair, stop, place)
 }
 
-// A frame with messages that all complete their transaction and leave no trace: they take effect, and the table stays.
+// A frame with messages that all complete their transaction and leave no trace: they take effect, every one with its
+// completion, and the table stays.
 fn take_closing(pair: Pair, f: &[u8], memory: &mut [u8], number: FrameNo, all: Closing) -> Stepped
     requires { ⌜ (length (now f) ≤ 9000) × (all .messages ≤ 375) ⌝ }
     ensures { λ r. ⌜ TakesClosing pair (now (f .entry)) (now (memory .entry)) (number .0) all r (now (memory .exit)) ⌝ }
 {
-    let due = [18446744073709551615u64; 6];
+    let due = [ALL_MARKS; 6];
     write_all(f, memory, due, all.messages);
     let lowest = all.lowest;
     let table = pair.table;

@@ -7,9 +7,10 @@ use native.Mathlib.Numerals.{add-one}
 use native.Mathlib.Omega.{arith}
 use borrow.Author.Needs.{needs}
 use borrow.Author.Tests.{not-true, not-false}
-use lib.ListN.{length, replicate}
+use lib.ListN.{length}
 use Rattle.transactions.specs.declared.Verdict.{Verdict}
 use Rattle.reader.proofs.Reading.{is-whole, Walked, walked-start, walked-last, walked-turn}
+use Rattle.host.specs.Passes.{allDue}
 use Rattle.host.proofs.Passes.{
   JudgingAll,
   judging-start,
@@ -35,9 +36,9 @@ use Rattle.transactions.proofs.judge.Reads as judge-reads
 
 abbrev Inv-loop : tie.InvT-loop
 Inv-loop low shut f size table lowest₀ closed₀ messages₀ bytes₀ at₀ lowest closed messages bytes at =
-    Steady f at messages bytes messages table (replicate 6 18446744073709551615)
+    Steady f at messages bytes messages table allDue
     × JudgingAll f size (record { lowest = low .0; closed = shut; table = table }) at messages bytes messages
-    (record { lowest = lowest .0; closed = closed; table = table }) (replicate 6 18446744073709551615)
+    (record { lowest = lowest .0; closed = closed; table = table }) allDue
     × Walked f at messages bytes
 
 abbrev μ-loop : tie.MeasureT-loop
