@@ -80,8 +80,9 @@ fn time(shape: Shape, frames: usize) {
     let hosts = hosts();
     let mut memories = vec![vec![0; MEMORY]; hosts.len()];
     let mut times = vec![Vec::new(); hosts.len()];
-    // A turn has some thousand frames at least, or the clock would show.
-    let calls = (65_536 / frames).max(1);
+    // A turn has some thousand frames, or the clock would show; not more, so that some
+    // turns are not interrupted on a machine that has other work.
+    let calls = (4_096 / frames).max(1);
     let turns = FRAMES.div_ceil(frames * calls);
     // The first turn warms up and is not counted.
     for turn in 0..=turns {
