@@ -51,29 +51,18 @@ returns-3 c =
 
 returns-4 : tie.Need-returns-4
 returns-4 c =
-    rw (
-      up-to-ten _ _ _ _ (c .before .before .before .before .before .before .before .before .args .len) _ _ (c .before .before .before .before .before .before .before .if1 .left) (c .before .before .before .before .before .before .is-marked .ensures) (c .before .before .before .before .before .if2 .left)
-          (c .before .before .before .before .has-same-terms .ensures) (c .before .before .before .if3 .left),
-      eq-eqb _ _ (c .before .if4 .taken),
-      lt-ltb _ _ (c .if5 .taken),
-    )
+    let left = up-to-ten _ _ _ _ (c .before .before .before .before .before .before .before .before .args .len) _ _ (c .before .before .before .before .before .before .before .if1 .left) (c .before .before .before .before .before .before .is-marked .ensures) (c .before .before .before .before .before .if2 .left) (c .before .before .before .before .has-same-terms .ensures) (c .before .before .before .if3 .left) in
+    rw (left, eq-eqb _ _ (c .before .if4 .taken), lt-ltb _ _ (c .if5 .taken))
 
 returns-5 : tie.Need-returns-5
 returns-5 c =
-    rw (
-      up-to-ten _ _ _ _ (c .before .before .before .before .before .before .before .before .args .len) _ _ (c .before .before .before .before .before .before .before .if1 .left) (c .before .before .before .before .before .before .is-marked .ensures) (c .before .before .before .before .before .if2 .left)
-          (c .before .before .before .before .has-same-terms .ensures) (c .before .before .before .if3 .left),
-      eq-eqb _ _ (c .before .if4 .taken),
-      le-ltb _ _ (c .if5 .left),
-    )
+    let left = up-to-ten _ _ _ _ (c .before .before .before .before .before .before .before .before .args .len) _ _ (c .before .before .before .before .before .before .before .if1 .left) (c .before .before .before .before .before .before .is-marked .ensures) (c .before .before .before .before .before .if2 .left) (c .before .before .before .before .has-same-terms .ensures) (c .before .before .before .if3 .left) in
+    rw (left, eq-eqb _ _ (c .before .if4 .taken), le-ltb _ _ (c .if5 .left))
 
 returns-6 : tie.Need-returns-6
 returns-6 c =
-    rw (
-      up-to-ten _ _ _ _ (c .before .before .before .before .before .before .before .args .len) _ _ (c .before .before .before .before .before .before .if1 .left) (c .before .before .before .before .before .is-marked .ensures) (c .before .before .before .before .if2 .left)
-          (c .before .before .before .has-same-terms .ensures) (c .before .before .if3 .left),
-      ne-eqb _ _ (c .if4 .left),
-    )
+    let left = up-to-ten _ _ _ _ (c .before .before .before .before .before .before .before .args .len) _ _ (c .before .before .before .before .before .before .if1 .left) (c .before .before .before .before .before .is-marked .ensures) (c .before .before .before .before .if2 .left) (c .before .before .before .has-same-terms .ensures) (c .before .before .if3 .left) in
+    rw (left, ne-eqb _ _ (c .if4 .left))
 
 pub terms-refusal-spec : {M : Type 1} → statement M
 terms-refusal-spec =
