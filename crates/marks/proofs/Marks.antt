@@ -287,14 +287,38 @@ marksOf-more (suc n) p = rw (marksOf-more n (λ i. p (suc i))) (go (p (suc n)) (
     go true x l = omega (arith, pow-succ' 2 n)
     go false x l = omega arith
 
-pub marksOf-yes : (width n : ℕ) (p : ℕ → Bool) → n < width → p n ≡ true
-    → withMark width (marksOf n p) n ≡ marksOf (n + 1) p
+marksOf-yes : (width n : ℕ) (p : ℕ → Bool) → n < width → p n ≡ true → withMark width (marksOf n p) n ≡ marksOf (suc n) p
 marksOf-yes width n p h e =
-    rw (add-one n) (withMark-clear width (marksOf n p) n h (mark-marksOf-beyond n p n (le-refl n))
-    ∙ sym (marksOf-more n p ∙ rw e))
+    withMark-clear width (marksOf n p) n h (mark-marksOf-beyond n p n (le-refl n)) ∙ sym (marksOf-more n p ∙ rw e)
 
-pub marksOf-no : (n : ℕ) (p : ℕ → Bool) → p n ≡ false → marksOf n p ≡ marksOf (n + 1) p
-marksOf-no n p e = rw (add-one n) (sym (marksOf-more n p ∙ rw e (omega arith)))
+marksOf-no : (n : ℕ) (p : ℕ → Bool) → p n ≡ false → marksOf n p ≡ marksOf (suc n) p
+marksOf-no n p e = sym (marksOf-more n p ∙ rw e (omega arith))
+
+-- what a loop over the marks of a word of this width has built after n turns
+pub record MarkedUpTo (width : ℕ) (p : ℕ → Bool) (n word : ℕ) : Type 0 where
+  pub word-is : word ≡ marksOf n p
+  pub within : n ≤ width
+
+module _ (width : ℕ) (p : ℕ → Bool) where
+  pub none-marked : MarkedUpTo width p 0 0
+  unfolding marksOf
+  none-marked = record { word-is = refl; within = omega arith }
+
+  pub one-more : {n word : ℕ} (new : ℕ) (passes : Bool) → MarkedUpTo width p n word → n < width → passes ≡ p n
+      → new ≡ cond passes (withMark width word n) word → MarkedUpTo width p (n + 1) new
+  one-more {n} {word} new passes m h e q = rw (add-one n) (go passes (sym e) q)
+    where
+      go : (b : Bool) → p n ≡ b → new ≡ cond b (withMark width word n) word → MarkedUpTo width p (suc n) new
+      go true t r = record {
+        word-is = r ∙ ap (λ (k : ℕ). withMark width k n) (m .word-is) ∙ marksOf-yes width n p h t;
+        within = omega arith;
+      }
+      go false f r = record { word-is = r ∙ m .word-is ∙ marksOf-no n p f; within = omega arith }
+
+  pub all-marked : {n word : ℕ} → MarkedUpTo width p n word → width ≤ n → word ≡ marksOf width p
+  all-marked {n} {word} m h =
+      let all : n ≡ width = omega (arith, m .within) in
+      m .word-is ∙ ap (λ (k : ℕ). marksOf k p) all
 
 -- ---- runs of marks in a word
 

@@ -1,12 +1,11 @@
 -- `Sendings::all_finished`: mark by mark, the marks of the transactions looked at so far.
 -- Assumes nothing.
-use mathlib.Core.Path.{_≡_, refl, sym, ap, _∙_}
+use mathlib.Core.Path.{sym, _∙_}
 use mathlib.Core.Logic.{⊎-elim}
-use Prim.Native.Nat.{ℕ, _-_, _≤_}
+use Prim.Native.Nat.{_-_}
 use native.Mathlib.Omega.{arith}
 use borrow.Author.Needs.{needs}
-use Rattle.marks.specs.Marks.{marksOf}
-use Rattle.marks.proofs.Marks.{marksOf-yes, marksOf-no}
+use Rattle.marks.proofs.Marks.{MarkedUpTo, none-marked, one-more, all-marked}
 use Rattle.sendings.specs.Sendings.{finishedBy}
 use Rattle.sendings.proofs.Sendings.all_finished.Statement.{statement}
 use Rattle.sendings.proofs.Sendings.all_finished.Tie as tie
@@ -16,15 +15,13 @@ use Rattle.marks.proofs.word32.with_mark.Reads as with-mark-reads
 use Rattle.sendings.proofs.Sendings.is_finished.Reads as is-finished-reads
 
 abbrev Inv-loop : tie.InvT-loop
-Inv-loop self base next finished₀ i₀ finished i =
-    (finished ≡ marksOf i (finishedBy self (base .0) (next .0))) × (i ≤ 32)
+Inv-loop self base next finished₀ i₀ finished i = MarkedUpTo 32 (finishedBy self (base .0) (next .0)) i finished
 
 abbrev μ-loop : tie.MeasureT-loop
 μ-loop self base next finished₀ i₀ finished i = 32 - i
 
 loop-holds : tie.Need-loop-holds Inv-loop μ-loop
-unfolding marksOf
-loop-holds c = (refl, omega arith)
+loop-holds c = none-marked 32 _
 
 is-finished-requires : tie.Need-is-finished-requires Inv-loop μ-loop
 is-finished-requires c κs = search needs
@@ -40,21 +37,11 @@ loop-less c = omega arith
 
 loop-again : tie.Need-loop-again Inv-loop μ-loop
 loop-again c =
-    let inv = c .before .before .before .loop .inv in
-    let more = c .before .before .loop-test .taken in (
-      ⊎-elim
-          (λ t. t .2 ∙ t .1 .ensures ∙ rw (inv .0) (marksOf-yes 32 _ _ more (sym (c .before .is-finished .ensures) ∙ t .0 .taken)))
-          (λ l. l .1 ∙ inv .0 ∙ marksOf-no _ _ (sym (c .before .is-finished .ensures) ∙ l .0 .left))
-          (c .if1 .came),
-      omega arith,
-    )
+    one-more 32 _ _ _ (c .before .before .before .loop .inv) (c .before .before .loop-test .taken) (c .before .is-finished .ensures)
+    (⊎-elim (λ t. t .2 ∙ t .1 .ensures ∙ sym (rw (t .0 .taken))) (λ l. l .1 ∙ sym (rw (l .0 .left))) (c .if1 .came))
 
 returns : tie.Need-returns Inv-loop μ-loop
-returns c =
-    let inv = c .before .loop .inv in
-    let full : c .before .loop .i ≡ 32 = omega (arith, inv .1, c .loop-test .left) in
-    let a = c .before .before .args in
-    inv .0 ∙ ap (λ (n : ℕ). marksOf n (finishedBy (a .self) (a .base .0) (a .next .0))) full
+returns c = all-marked 32 _ (c .before .loop .inv) (c .loop-test .left)
 
 pub all-finished-spec : {M : Type 1} → statement M
 all-finished-spec =
