@@ -1,16 +1,16 @@
 -- The card's six steps keep the system and the book in agreement.
 -- Assumes nothing.
-use Prim.Native.Nat.{ℕ, zero, suc, _+_, _%_, _≤_, _<_}
+use Prim.Native.Nat.{ℕ, _+_, _%_, _≤_, _<_}
 use native.Mathlib.Nat.{mod-lt}
 use native.Mathlib.Omega.{arith}
 use mathlib.Core.Path.{_≡_, refl, ap, _∙_, subst}
 use mathlib.Core.Logic.{_⊎_, inl, inr}
 use mathlib.Core.Bool.{Bool, true, false, cond, not, _&&_, _||_}
-use mathlib.Core.List.{List, [], _∷_, _++_, List·Memᴰ, List·Memᴰ·head, List·Memᴰ·tail}
-use mathlib.Core.Option.{Option, none, some}
+use mathlib.Core.List.{List, [], _∷_, _++_}
+use mathlib.Core.Option.{Option, some}
 use borrow.Author.Tests.{eqb-true, ltb-true, leb-true}
 use lib.Dec.{eqb, ltb, lit<}
-use lib.ListN.{length, getD, getElem?}
+use lib.ListN.{length}
 use Rattle.seq.specs.Ring.{latest, frameSpace, transSpace}
 use Rattle.seq.proofs.Ring.{latest-is}
 use Rattle.octets.specs.Octets.{little, value, field}
@@ -60,6 +60,7 @@ use Rattle.delivery.specs.Book.{
 }
 use Rattle.delivery.specs.System.{specified, Event, opens, adds, seals, reads, shows, chooses, System, byCard, step}
 use Rattle.delivery.specs.Demand3.{typed, ackInTime, inTime}
+use Rattle.delivery.proofs.Along.{along-more, Found, along-at}
 use Rattle.delivery.proofs.Steps.{sound-opening, sound-sealing, sound-handing, withAdded, accepted-sealed}
 use Rattle.delivery.proofs.CardFor.{SlotFor, framed, open-room, open-done, open-refused, card-opened}
 use Rattle.delivery.proofs.CardAdd.{and-left, and-right, e, entered, added-sound, add-done, fits-slot, card-added}
@@ -75,16 +76,7 @@ use Rattle.delivery.proofs.CardSeal.{
   oldest-is,
 }
 use Rattle.delivery.proofs.CardRead.{read-sound, card-read}
-use Rattle.delivery.proofs.Rest.{
-  AllCopied,
-  Copied,
-  AllAcks,
-  copies-alike,
-  rest-opening,
-  rest-adding,
-  rest-sealing,
-  rest-acking,
-}
+use Rattle.delivery.proofs.Rest.{Copied, Acknowledges, copies-alike, rest-opening, rest-adding, rest-sealing, rest-acking}
 use Rattle.delivery.proofs.Agree.{SystemFor, after-card}
 
 module _ (cardId hostId : ℕ) (cardFits : cardId < frameSpace) (hostFits : hostId < frameSpace) (w : System) (b : Book)
@@ -193,13 +185,6 @@ module _ (cardId hostId : ℕ) (cardFits : cardId < frameSpace) (hostFits : host
 
   -- ---- handing out
 
-  copies-more : (fs : List (List ℕ)) (xs : List HandOut) (g : List ℕ) (x : HandOut) → AllCopied cardId hostId b fs xs
-      → Copied cardId hostId b g x → AllCopied cardId hostId b (fs ++ (g ∷ [])) (xs ++ (x ∷ []))
-  copies-more [] [] g x a k = (k, tt)
-  copies-more [] (y ∷ ys) g x a k = absurd a
-  copies-more (h ∷ hs) [] g x a k = absurd a
-  copies-more (h ∷ hs) (y ∷ ys) g x a k = (a .0, copies-more hs ys g x (a .1) k)
-
   -- the system with one thing more handed out
   abbrev handing : List ℕ → System
   handing g = record {
@@ -230,7 +215,7 @@ module _ (cardId hostId : ℕ) (cardFits : cardId < frameSpace) (hostFits : host
       memoryIs = f .rest .memoryIs;
       copies =
           copies-alike cardId hostId b (enterHandOut b x) (w .handOuts ++ (g ∷ [])) (b .handOuts ++ (x ∷ [])) (λ n m. refl)
-          (copies-more (w .handOuts) (b .handOuts) g x (f .rest .copies) k);
+          (along-more (Copied cardId hostId b) (w .handOuts) (b .handOuts) g x (f .rest .copies) k);
       acksAre = f .rest .acksAre;
       matching = f .rest .matching;
       once = f .rest .once;
@@ -302,7 +287,7 @@ module _ (cardId hostId : ℕ) (cardFits : cardId < frameSpace) (hostFits : host
 
   -- ---- choosing
 
-  number-framed : (ds : List Transaction) (n : ℕ) (es : List MessageRecord)
+  pub number-framed : (ds : List Transaction) (n : ℕ) (es : List MessageRecord)
       → number (framed cardId hostId ds n es) ≡ n % frameSpace
   unfolding frameOf frameHead field little value
   number-framed ds n es = value-little 2 (n % frameSpace) (mod-lt n (lit< tt))
@@ -342,28 +327,11 @@ module _ (cardId hostId : ℕ) (cardFits : cardId < frameSpace) (hostFits : host
 
   -- ---- reading
 
-  -- the acknowledgement called for k-th, if there is one
-  abbrev AckAt : List (List ℕ) → List ℕ → ℕ → Type 0
-  AckAt fs xs k =
-      ((getElem? xs k ≡ none) × (getD fs k [] ≡ []))
-      ⊎ ((x : ℕ) × (getElem? xs k ≡ some x) × List·Memᴰ x xs × (getD fs k [] ≡ ackFrame cardId hostId 0 (x % frameSpace) 1))
-
-  acks-at : (fs : List (List ℕ)) (xs : List ℕ) → AllAcks cardId hostId fs xs → (k : ℕ) → AckAt fs xs k
-  acks-at [] [] a k = inl (refl, refl)
-  acks-at [] (x ∷ xs) a k = absurd a
-  acks-at (g ∷ gs) [] a k = absurd a
-  acks-at (g ∷ gs) (x ∷ xs) a zero = inr (x, refl, List·Memᴰ·head refl, a .0)
-  acks-at (g ∷ gs) (x ∷ xs) a (suc k) = go (acks-at gs xs (a .1) k)
-    where
-      go : AckAt gs xs k → AckAt (g ∷ gs) (x ∷ xs) (suc k)
-      go (inl p) = inl p
-      go (inr p) = inr (p .0, p .1, List·Memᴰ·tail (p .2), p .3)
-
   read-nothing : readAcks c [] ≡ record { card = c; refusal = 1 }
   unfolding readAcks
   read-nothing = rw (read-short (addressed (c .own) (c .peer) []) [] (omega arith))
 
-  read-ack : (x : ℕ) → x < frameSpace
+  pub read-ack : (x : ℕ) → x < frameSpace
       → readAcks c (ackFrame cardId hostId 0 x 1) ≡ record { card = acknowledged c x 1; refusal = 0 }
   unfolding readAcks
   read-ack x h =
@@ -378,9 +346,9 @@ module _ (cardId hostId : ℕ) (cardFits : cardId < frameSpace) (hostFits : host
 
   pub step-reads : (k : ℕ) → inTime b (reads k) ≡ true → Keeps (reads k)
   unfolding step enter byCard inTime ackInTime acknowledged
-  step-reads k late = go (acks-at (w .acks) (b .acksDue) (f .rest .acksAre) k)
+  step-reads k late = go (along-at (Acknowledges cardId hostId) [] (w .acks) (b .acksDue) (f .rest .acksAre) k)
     where
-      go : AckAt (w .acks) (b .acksDue) k → Keeps (reads k)
+      go : Found (Acknowledges cardId hostId) [] (w .acks) (b .acksDue) k → Keeps (reads k)
       go (inl p) = rw (p .1, read-nothing) stays
       go (inr p) =
           let x = p .0 in

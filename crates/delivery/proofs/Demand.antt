@@ -77,7 +77,7 @@ use Rattle.delivery.proofs.CardSteps.{step-opens, step-adds, step-seals
 use Rattle.delivery.proofs.Receive.{step-receives}
 
 -- an observation tells its own call
-seen-event : (e : Implementation) (w : System) (x : Event) → step e w x .observation .event ≡ x
+pub seen-event : (e : Implementation) (w : System) (x : Event) → step e w x .observation .event ≡ x
 unfolding step byCard byHost
 seen-event e w (opens count target value) = refl
 seen-event e w (adds t at bytes) = refl

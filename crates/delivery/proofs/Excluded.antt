@@ -16,7 +16,7 @@ use Rattle.host.specs.declared.Pair.{Pair}
 use Rattle.host.specs.declared.Answer.{Answer}
 use Rattle.host.specs.declared.Answer.the-variants.{Accepted, Again, NoMessages, Refused}
 use Rattle.host.specs.declared.Acknowledgement.{Acknowledgement}
-use Rattle.host.specs.Host.{Received, unchanged, refused, receiveOf, rangeOf}
+use Rattle.host.specs.Host.{Received, unchanged, refused, receiveOf, rangeOf, acknowledgementOf}
 use Rattle.card.specs.declared.Card.{Card}
 use Rattle.delivery.specs.Book.{Expected, expectAccepted, expectAgain, expectNoEffect, enter}
 use Rattle.delivery.specs.System.{
@@ -46,11 +46,11 @@ use Rattle.delivery.proofs.Computing.{computing}
 
 -- ---- other ends
 
-abbrev Receiving : Type 0
+abbrev pub Receiving : Type 0
 Receiving = Pair → List ℕ → List ℕ → Received
 
 -- The rules' ends but for the host's receiving, for its acknowledging, or for one step of the card.
-abbrev withHost : Receiving → Implementation
+abbrev pub withHost : Receiving → Implementation
 withHost r = record {
   cardOpening = specified .cardOpening;
   hostOpening = specified .hostOpening;
@@ -79,14 +79,14 @@ withAcknowledging a = record {
 }
 
 abbrev withCardSteps : (ℕ → ℕ → ℕ → List ℕ → CardResult) → (Card → List ℕ → ℕ → ℕ → List ℕ → CardResult)
-    → (Card → List ℕ → CardResult) → Implementation
-withCardSteps opened added sealed = record {
+    → (Card → List ℕ → CardResult) → (Card → List ℕ → List ℕ → CardResult) → Implementation
+withCardSteps opened added sealed read = record {
   cardOpening = opened;
   hostOpening = specified .hostOpening;
   opening = specified .opening;
   adding = added;
   sealing = sealed;
-  reading = specified .reading;
+  reading = read;
   showing = specified .showing;
   choosing = specified .choosing;
   receiving = specified .receiving;
@@ -102,7 +102,7 @@ kind expectNoEffect = 3
 kindAt : ℕ → List Expected → ℕ
 kindAt k xs = kind (getD xs k expectNoEffect)
 
--- ---- four hosts that answer or write at will
+-- ---- hosts that answer or write at will
 
 refusesAll : Receiving
 refusesAll h f m = unchanged h m (refused 1 0)
@@ -115,6 +115,11 @@ writesFirst : Receiving
 writesFirst h f m =
     let r = receiveOf h f m in
     record { pair = r .pair; memory = cond (eqb (h .next .0) 0 && eqb (h .marks) 0) (r .memory) m; answer = r .answer }
+
+-- Takes its first frame, and merely acknowledges the rest.
+acknowledgesRest : Receiving
+acknowledgesRest h f m =
+    cond (eqb (h .next .0) 0 && eqb (h .marks) 0) (receiveOf h f m) (unchanged h m (Again (record { 0 = number f })))
 
 -- Reports f of the messages, g of the bytes and k of the completed transactions.
 reporting : (ℕ → ℕ) → (ℕ → ℕ) → (ℕ → ℕ) → Answer → Answer
@@ -157,6 +162,12 @@ unfolding computing inOrder writesFirst
 not-writesFirst d =
     let z : _≡_ {A = ℕ} 0 9 =
     ap (λ m. getD m 9 0) (applied _ d (replicate 10 0) inOrder (met writesFirst) .memoryAgrees) in
+    omega arith
+
+not-acknowledgesRest : Demand3For (withHost acknowledgesRest) → ⊥
+unfolding computing inOrder acknowledgesRest kind kindAt
+not-acknowledgesRest d =
+    let z : _≡_ {A = ℕ} 2 1 = ap (kindAt 1) (applied _ d (replicate 10 0) inOrder (met acknowledgesRest) .answersMatch) in
     omega arith
 
 messagesOf : Expected → ℕ
@@ -264,6 +275,25 @@ not-acksTwo d =
     let z : _≡_ {A = ℕ} 2 1 = applied _ d (replicate 6 0) oneOfTwo refl .releasedAgrees in
     omega arith
 
+-- It does not acknowledge a frame that comes again.
+silentOnAgain : ℕ → ℕ → Answer → ℕ → Acknowledgement
+silentOnAgain own peer (Again n) num = acknowledgementOf own peer NoMessages num
+silentOnAgain own peer (Accepted n s) num = acknowledgementOf own peer (Accepted n s) num
+silentOnAgain own peer NoMessages num = acknowledgementOf own peer NoMessages num
+silentOnAgain own peer (Refused r) num = acknowledgementOf own peer (Refused r) num
+
+-- The second acknowledgement called for is of frame 0 again, and not yet of frame 1.
+repeated : List Event
+repeated =
+    opens 2 0 1 ∷ adds 0 4 (9 ∷ []) ∷ seals ∷ adds 0 5 (9 ∷ []) ∷ seals ∷ shows 0 ∷ shows 1
+    ∷ receives 0 ∷ receives 0 ∷ receives 1 ∷ reads 1 ∷ []
+
+not-silentOnAgain : Demand3For (withAcknowledging silentOnAgain) → ⊥
+unfolding computing repeated silentOnAgain
+not-silentOnAgain d =
+    let z : _≡_ {A = ℕ} 2 3 = applied _ d (replicate 6 0) repeated refl .releasedAgrees in
+    omega arith
+
 -- ---- cards
 
 -- It releases what it seals.
@@ -294,17 +324,30 @@ releasesEarly c s =
 sealedOne : List Event
 sealedOne = opens 0 0 0 ∷ adds 0 0 [] ∷ seals ∷ []
 
-not-releasesEarly : Demand3For (withCardSteps (specified .cardOpening) (specified .adding) releasesEarly) → ⊥
+not-releasesEarly : Demand3For (withCardSteps (specified .cardOpening) (specified .adding) releasesEarly (specified .reading)) → ⊥
 unfolding computing sealedOne releasesEarly
 not-releasesEarly d =
     let z : _≡_ {A = ℕ} 1 0 = applied _ d (replicate 4 0) sealedOne refl .releasedAgrees in
+    omega arith
+
+-- It reads acknowledgements and does nothing about them.
+ignoresAcks : Card → List ℕ → List ℕ → CardResult
+ignoresAcks c s f = handedOver (specified .reading c s f .refusal) c s []
+
+acknowledgedOne : List Event
+acknowledgedOne = opens 0 0 0 ∷ adds 0 0 [] ∷ seals ∷ shows 0 ∷ receives 0 ∷ reads 0 ∷ []
+
+not-ignoresAcks : Demand3For (withCardSteps (specified .cardOpening) (specified .adding) (specified .sealing) ignoresAcks) → ⊥
+unfolding computing acknowledgedOne ignoresAcks
+not-ignoresAcks d =
+    let z : _≡_ {A = ℕ} 1 2 = applied _ d (replicate 4 0) acknowledgedOne refl .releasedAgrees in
     omega arith
 
 -- Its opening takes its own ID for its peer's.
 swapsIds : ℕ → ℕ → ℕ → List ℕ → CardResult
 swapsIds own peer limit slots = specified .cardOpening peer own limit slots
 
-not-swapsIds : Demand3For (withCardSteps swapsIds (specified .adding) (specified .sealing)) → ⊥
+not-swapsIds : Demand3For (withCardSteps swapsIds (specified .adding) (specified .sealing) (specified .reading)) → ⊥
 unfolding computing inOrder swapsIds kind kindAt
 not-swapsIds d =
     let z : _≡_ {A = ℕ} 3 1 = ap (kindAt 0) (applied _ d (replicate 10 0) inOrder refl .answersMatch) in
@@ -313,7 +356,9 @@ not-swapsIds d =
 -- A card that adds nothing meets demand 3: the demand asks nothing to be sent. (Nor does it speak of the numbers that opening and
 -- sealing hand back: a CardResult has none.)
 abbrev addsNothing : Implementation
-addsNothing = withCardSteps (specified .cardOpening) (λ c slots t at bytes. handedOver 23 c slots []) (specified .sealing)
+addsNothing =
+    withCardSteps (specified .cardOpening) (λ c slots t at bytes. handedOver 23 c slots []) (specified .sealing)
+    (specified .reading)
 
 adds-nothing : Demand3For addsNothing
 unfolding step enter byCard byHost acksFor initial

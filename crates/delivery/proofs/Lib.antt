@@ -1,3 +1,4 @@
+pub mod Along
 pub mod Writes
 pub mod Counts
 pub mod Sound
@@ -23,3 +24,6 @@ pub mod Check
 pub mod Computing
 pub mod Worked
 pub mod Excluded
+pub mod Unrefused
+pub mod Reaching
+pub mod ComesRound

@@ -5,10 +5,10 @@ use native.Mathlib.Nat.{mod-lt, add-zero, not-suc-le-zero}
 use native.Mathlib.Decide.{ℕ-discrete}
 use native.Mathlib.Omega.{arith}
 use mathlib.Core.Path.{_≡_, refl, sym, ap, _∙_, subst}
-use mathlib.Core.Logic.{_≢_, _⊎_, inl, inr}
+use mathlib.Core.Logic.{_≢_, inl, inr}
 use mathlib.Core.Bool.{Bool, true, false, cond, not, _&&_, true≢false}
 use mathlib.Core.List.{List, [], _∷_, _++_, map, append-nil, List·Memᴰ, List·Memᴰ·head, List·Memᴰ·tail, Memᴰ·append-left}
-use mathlib.Core.Option.{Option, none, some}
+use mathlib.Core.Option.{Option, some}
 use borrow.Author.Tests.{eq-eqb, ne-eqb, leb-true}
 use lib.Dec.{eqb, lit<}
 use lib.ListN.{length, getD, getElem?}
@@ -59,6 +59,7 @@ use Rattle.delivery.specs.Book.{
 }
 use Rattle.delivery.specs.System.{specified, receives, System, acksFor, byHost, step}
 use Rattle.delivery.specs.Demand3.{WritesAllowed, frameInTime, inTime, kindOf, numberedAs, accepts, sumOver}
+use Rattle.delivery.proofs.Along.{Along, along-more, Found, along-at}
 use Rattle.delivery.proofs.Counts.{count, count-append, full-mono, length-change, getD-change-same, getD-change-other}
 use Rattle.delivery.proofs.Steps.{sound-ignoring, sound-arriving, messagesIn-marked}
 use Rattle.delivery.proofs.Sums.{
@@ -77,7 +78,7 @@ use Rattle.delivery.proofs.HostArrive.{HostFor, transactions-arriving, 
 use Rattle.delivery.proofs.CardFor.{CardFor, framed}
 use Rattle.delivery.proofs.CardSeal.{card-alike}
 use Rattle.delivery.proofs.Answers.{match-more, times-more, adds, sum-more}
-use Rattle.delivery.proofs.Rest.{TermsTyped, MessageTyped, Copied, AllCopied, AllAcks, Rest, copies-alike}
+use Rattle.delivery.proofs.Rest.{TermsTyped, MessageTyped, Copied, AllCopied, Acknowledges, Rest, copies-alike}
 use Rattle.delivery.proofs.Agree.{SystemFor}
 
 -- ---- what carries no message
@@ -188,7 +189,7 @@ module _ (cardId hostId : ℕ) (cardFits : cardId < frameSpace) (hostFits : host
       memoryIs = f .rest .memoryIs;
       copies = copies-alike cardId hostId b (enterNoEffect b) (w .handOuts) (b .handOuts) (λ c m. refl) (f .rest .copies);
       acksAre =
-          subst (λ (l : List (List ℕ)). AllAcks cardId hostId l (b .acksDue))
+          subst (λ (l : List (List ℕ)). Along (Acknowledges cardId hostId) l (b .acksDue))
           (sym (ap (λ (l : List (List ℕ)). w .acks ++ l) (n .noAck) ∙ append-nil (w .acks))) (f .rest .acksAre);
       matching = match-more (w .answers) (b .expected) a expectNoEffect (f .rest .matching) (n .kind);
       once = λ c. times-more c (b .expected) expectNoEffect ∙ add-zero _ ∙ f .rest .once c;
@@ -238,18 +239,14 @@ module _ (cardId hostId : ℕ) (cardFits : cardId < frameSpace) (hostFits : host
         (same-at (λ y. y .acknowledged) (λ y. refl)) (λ n. messagesIn-marked (b .frames) c markAccepted (λ y. refl) n)
         (w .card) (w .slots) (f .cardFor)
 
-    acks-more : (fs : List (List ℕ)) (xs : List ℕ) → AllAcks cardId hostId fs xs
-        → AllAcks cardId hostId (fs ++ (ackFrame cardId hostId 0 num 1 ∷ [])) (xs ++ (c ∷ []))
-    acks-more [] [] a = (refl, tt)
-    acks-more [] (y ∷ ys) a = absurd a
-    acks-more (g ∷ gs) [] a = absurd a
-    acks-more (g ∷ gs) (y ∷ ys) a = (a .0, acks-more gs ys (a .1))
-
     -- accepted and again call for the acknowledgement of the frame's number
     acks-now : (x : Pair) (a : Answer) → x .own ≡ hostId → x .peer ≡ cardId → rangeOf a ≡ record { start = num; count = 1 }
-        → AllAcks cardId hostId (w .acks ++ acksFor specified x a) (b′ .acksDue)
+        → Along (Acknowledges cardId hostId) (w .acks ++ acksFor specified x a) (b′ .acksDue)
     unfolding enterArrival acksFor acknowledgementOf
-    acks-now x a o p q = rw (o, p, q) (acks-more (w .acks) (b .acksDue) (f .rest .acksAre))
+    acks-now x a o p q =
+        rw (o, p, q)
+        (along-more (Acknowledges cardId hostId) (w .acks) (b .acksDue) (ackFrame cardId hostId 0 num 1) c
+        (f .rest .acksAre) refl)
 
     all-fit : (xs : List MessageRecord) → ((e : MessageRecord) → List·Memᴰ e xs → List·Memᴰ e (addedMessages b))
         → AllFit (map (wired (b .transactions)) xs)
@@ -339,7 +336,8 @@ module _ (cardId hostId : ℕ) (cardFits : cardId < frameSpace) (hostFits : host
         copies =
             copies-alike cardId hostId b (book (b .frames)) (w .handOuts) (b .handOuts) (λ n m. refl) (f .rest .copies);
         acksAre =
-            subst (λ (y : Book). AllAcks cardId hostId (w .acks ++ acksFor specified h again) (y .acksDue)) arrival-is
+            subst (λ (y : Book). Along (Acknowledges cardId hostId) (w .acks ++ acksFor specified h again) (y .acksDue))
+            arrival-is
             (acks-now h again (f .rest .hostOwn) (f .rest .hostPeer) refl);
         matching = match-more (w .answers) (b .expected) again (expectAgain c) (f .rest .matching) refl;
         once = λ k. times-more k (b .expected) (expectAgain c) ∙ add-zero _ ∙ f .rest .once k;
@@ -476,23 +474,6 @@ module _ (cardId hostId : ℕ) (cardFits : cardId < frameSpace) (hostFits : host
   abbrev Keeps : ℕ → Book → Type 0
   Keeps k next = For (step specified w (receives k) .system) next
 
-  -- what was handed out k-th, if anything was
-  abbrev CopyAt : List (List ℕ) → List HandOut → ℕ → Type 0
-  CopyAt fs xs k =
-      ((getElem? xs k ≡ none) × (getD fs k [] ≡ []))
-      ⊎ ((x : HandOut) × (getElem? xs k ≡ some x) × List·Memᴰ x xs × Copied cardId hostId b (getD fs k []) x)
-
-  copies-at : (fs : List (List ℕ)) (xs : List HandOut) → AllCopied cardId hostId b fs xs → (k : ℕ) → CopyAt fs xs k
-  copies-at [] [] a k = inl (refl, refl)
-  copies-at [] (x ∷ xs) a k = absurd a
-  copies-at (g ∷ gs) [] a k = absurd a
-  copies-at (g ∷ gs) (x ∷ xs) a zero = inr (x, refl, List·Memᴰ·head refl, a .0)
-  copies-at (g ∷ gs) (x ∷ xs) a (suc k) = go (copies-at gs xs (a .1) k)
-    where
-      go : CopyAt gs xs k → CopyAt (g ∷ gs) (x ∷ xs) (suc k)
-      go (inl p) = inl p
-      go (inr p) = inr (p .0, p .1, List·Memᴰ·tail (p .2), p .3)
-
   reached-short : (k : ℕ) → length (getD (w .handOuts) k []) ≤ 10 → Keeps k (enterNoEffect b)
   unfolding step byHost
   reached-short k l =
@@ -524,7 +505,7 @@ module _ (cardId hostId : ℕ) (cardFits : cardId < frameSpace) (hostFits : host
       → WritesAllowed (bookStep b (step specified w (receives k) .observation))
       → Keeps k (bookStep b (step specified w (receives k) .observation))
   unfolding enter enterDelivery step byHost inTime frameInTime
-  step-receives k late kept = go (copies-at (w .handOuts) (b .handOuts) (f .rest .copies) k)
+  step-receives k late kept = go (along-at (Copied cardId hostId b) [] (w .handOuts) (b .handOuts) (f .rest .copies) k)
     where
       reached : (x : HandOut) → List·Memᴰ x (b .handOuts) → Copied cardId hostId b (getD (w .handOuts) k []) x
           → frameInTime b (some x) ≡ true → WritesAllowed (enterDelivery b (some x)) → Keeps k (enterDelivery b (some x))
@@ -533,7 +514,7 @@ module _ (cardId hostId : ℕ) (cardFits : cardId < frameSpace) (hostFits : host
       reached (frameCopy n) m c t q =
           reached-frame k n (f .sound .handOutsSealed n m) c (leb-true (lowestNotAccepted b) (n + 32768) t) q
 
-      go : CopyAt (w .handOuts) (b .handOuts) k → Keeps k (enterDelivery b (getElem? (b .handOuts) k))
+      go : Found (Copied cardId hostId b) [] (w .handOuts) (b .handOuts) k → Keeps k (enterDelivery b (getElem? (b .handOuts) k))
       go (inl p) =
           subst (λ (o : Option HandOut). Keeps k (enterDelivery b o)) (sym (p .0)) (reached-short k (rw (p .1) (omega arith)))
       go (inr p) =

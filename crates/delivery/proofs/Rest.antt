@@ -16,8 +16,6 @@ use mathlib.Core.List.{
   append-assoc,
   append-nil,
   List·Memᴰ,
-  List·Memᴰ·head,
-  List·Memᴰ·tail,
   List·Memᴰ·append-cases,
   List·Memᴰ·eq-of-singleton,
   Memᴰ·append-left,
@@ -71,6 +69,7 @@ use Rattle.delivery.specs.Book.{
   enterAck,
 }
 use Rattle.delivery.specs.Demand3.{kindOf, numberedAs, timesAccepted, messagesSum, bytesSum, completeSum}
+use Rattle.delivery.proofs.Along.{Along, along-alike}
 use Rattle.delivery.proofs.Counts.{
   count,
   not-full,
@@ -110,16 +109,11 @@ module _ (cardId hostId : ℕ) where
   Copied b f (frameCopy c) = (f ≡ frameBytesOf b c) × (length f ≤ 9000)
 
   abbrev pub AllCopied : Book → List (List ℕ) → List HandOut → Type 0
-  AllCopied b [] [] = Unit {0}
-  AllCopied b [] (x ∷ xs) = ⊥
-  AllCopied b (f ∷ fs) [] = ⊥
-  AllCopied b (f ∷ fs) (x ∷ xs) = Copied b f x × AllCopied b fs xs
+  AllCopied b = Along (Copied b)
 
-  abbrev pub AllAcks : List (List ℕ) → List ℕ → Type 0
-  AllAcks [] [] = Unit {0}
-  AllAcks [] (x ∷ xs) = ⊥
-  AllAcks (f ∷ fs) [] = ⊥
-  AllAcks (f ∷ fs) (x ∷ xs) = (f ≡ ackFrame cardId hostId 0 (x % frameSpace) 1) × AllAcks fs xs
+  -- What was called for is the acknowledgement of each frame's number.
+  abbrev pub Acknowledges : List ℕ → ℕ → Type 0
+  Acknowledges f c = f ≡ ackFrame cardId hostId 0 (c % frameSpace) 1
 
   pub record Rest (h : Pair) (memory : List ℕ) (handOuts acks : List (List ℕ)) (answers : List Answer) (b : Book) : Type 0 where
     pub hostFor : HostFor h b
@@ -127,7 +121,7 @@ module _ (cardId hostId : ℕ) where
     pub hostPeer : h .peer ≡ cardId
     pub memoryIs : memory ≡ bookMemory b
     pub copies : AllCopied b handOuts (b .handOuts)
-    pub acksAre : AllAcks acks (b .acksDue)
+    pub acksAre : Along Acknowledges acks (b .acksDue)
     pub matching : map kindOf answers ≡ map numberedAs (b .expected)
     pub once : (c : ℕ) → timesAccepted c (b .expected) ≡ cond (frameAt b c .accepted) 1 0
     pub messagesAre : messagesSum answers ≡ length (acceptedMessages b)
@@ -138,15 +132,12 @@ module _ (cardId hostId : ℕ) where
 
   pub copies-alike : (b b′ : Book) (fs : List (List ℕ)) (xs : List HandOut)
       → ((c : ℕ) → List·Memᴰ (frameCopy c) xs → frameBytesOf b c ≡ frameBytesOf b′ c) → AllCopied b fs xs → AllCopied b′ fs xs
-  copies-alike b b′ [] [] same a = tt
-  copies-alike b b′ [] (x ∷ xs) same a = a
-  copies-alike b b′ (f ∷ fs) [] same a = a
-  copies-alike b b′ (f ∷ fs) (nothingHanded ∷ xs) same a =
-      (a .0, copies-alike b b′ fs xs (λ c m. same c (List·Memᴰ·tail m)) (a .1))
-  copies-alike b b′ (f ∷ fs) (lentAck ∷ xs) same a =
-      (a .0, copies-alike b b′ fs xs (λ c m. same c (List·Memᴰ·tail m)) (a .1))
-  copies-alike b b′ (f ∷ fs) (frameCopy c ∷ xs) same a =
-      ((a .0 .0 ∙ same c (List·Memᴰ·head refl), a .0 .1), copies-alike b b′ fs xs (λ c m. same c (List·Memᴰ·tail m)) (a .1))
+  copies-alike b b′ fs xs same = along-alike (Copied b) (Copied b′) fs xs alike
+    where
+      alike : (x : HandOut) → List·Memᴰ x xs → (f : List ℕ) → Copied b f x → Copied b′ f x
+      alike nothingHanded m f a = a
+      alike lentAck m f a = a
+      alike (frameCopy c) m f a = (a .0 ∙ same c m, a .1)
 
   -- What a change of the book that only the card notices leaves.
   pub record Unnoticed (b b′ : Book) : Type 0 where
