@@ -1,5 +1,6 @@
--- A host that compares frame numbers by plain less-than does not meet demand 3. It differs from the rules only where numbers come
--- round: 65,534 frames are sent and released, three more are sealed, and the last of these, number 0, arrives first.
+-- A host that compares frame numbers by plain less-than does not meet demand 3: once numbers have come round it takes a new frame
+-- for an old copy, acknowledges it and throws it away. Nothing of this shows before. So in the list 65,534 frames are sent and
+-- released, three more are sealed, and the last of these, number 0, arrives first.
 -- Assumes nothing.
 use Prim.Native.Nat.{ℕ, zero, suc, _+_, _-_, _%_, _≤_, _<_}
 use native.Mathlib.Nat.{mod-eq-of-lt}
