@@ -287,7 +287,7 @@ module _ (cardId hostId : ℕ) (cardFits : cardId < frameSpace) (hostFits : host
 
   -- ---- choosing
 
-  pub number-framed : (ds : List Transaction) (n : ℕ) (es : List MessageRecord)
+  number-framed : (ds : List Transaction) (n : ℕ) (es : List MessageRecord)
       → number (framed cardId hostId ds n es) ≡ n % frameSpace
   unfolding frameOf frameHead field little value
   number-framed ds n es = value-little 2 (n % frameSpace) (mod-lt n (lit< tt))

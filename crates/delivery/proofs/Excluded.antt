@@ -94,7 +94,7 @@ withCardSteps opened added sealed read = record {
 }
 
 -- The kind of the k-th answer, as a number.
-kind : Expected → ℕ
+unfoldable pub kind : Expected → ℕ
 kind (expectAccepted c sums) = 1
 kind (expectAgain c) = 2
 kind expectNoEffect = 3

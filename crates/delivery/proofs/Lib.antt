@@ -25,5 +25,7 @@ pub mod Computing
 pub mod Worked
 pub mod Excluded
 pub mod Unrefused
-pub mod Reaching
-pub mod ComesRound
+pub mod Entered
+pub mod NoBytes
+pub mod Rounds
+pub mod Older

@@ -1,0 +1,125 @@
+-- What the book is after a call that the card does not refuse, where system and book agree; and the bytes of what was handed out.
+-- Assumes nothing.
+use Prim.Native.Nat.{ℕ, _+_, _%_, _≤_, _<_}
+use native.Mathlib.Nat.{mod-lt}
+use native.Mathlib.Omega.{arith}
+use mathlib.Core.Path.{_≡_, sym, _∙_, subst}
+use mathlib.Core.Logic.{inl, inr}
+use mathlib.Core.Bool.{false}
+use mathlib.Core.List.{List, []}
+use mathlib.Core.Option.{none, some}
+use lib.Dec.{lit<}
+use lib.ListN.{length, getD, getElem?}
+use Rattle.seq.specs.Ring.{frameSpace, transSpace}
+use Rattle.seq.proofs.Ring.{latest-is}
+use Rattle.marks.proofs.Marks.{leading-fails}
+use Rattle.wire.specs.Format.{needed}
+use Rattle.card.specs.declared.Card.{Card}
+use Rattle.delivery.specs.Book.{
+  HandOut,
+  frameCopy,
+  Book,
+  messagesIn,
+  anyFrame,
+  frameAt,
+  releasedCount,
+  releasedMessages,
+  transactionAt,
+  finished,
+  enterOpening,
+  enterMessage,
+  enterSealing,
+  enterAck,
+  enterHandOut,
+  shown,
+  enter,
+  bookStep,
+}
+use Rattle.delivery.specs.System.{specified, opens, adds, seals, reads, shows, System, byCard, step}
+use Rattle.delivery.proofs.Along.{Found, along-at}
+use Rattle.delivery.proofs.Counts.{count-append, count-prefix, not-full}
+use Rattle.delivery.proofs.Sound.{lowUnfinished}
+use Rattle.delivery.proofs.CardFor.{inAll}
+use Rattle.delivery.proofs.CardAdd.{add-done}
+use Rattle.delivery.proofs.CardSeal.{seal-done}
+use Rattle.delivery.proofs.Rest.{Copied, Acknowledges}
+use Rattle.delivery.proofs.Agree.{SystemFor}
+use Rattle.delivery.proofs.CardSteps.{read-ack}
+use Rattle.delivery.proofs.Unrefused.{opens-unrefused, adds-unrefused, seals-unrefused, shows-unrefused}
+
+none-some : {A : Type 0} (x : A) → none ≡ some x → ⊥
+none-some x q =
+    let z : _≡_ {A = ℕ} 0 1 = cc in
+    omega arith
+
+module _ (cardId hostId : ℕ) (cardFits : cardId < frameSpace) (hostFits : hostId < frameSpace) (w : System) (b : Book)
+    (f : SystemFor cardId hostId w b) where
+  abbrev c : Card
+  c = w .card
+
+  abbrev slots : List ℕ
+  slots = w .slots
+
+  pub opening-entered : (count target value : ℕ) → length (b .transactions) < 32
+      → bookStep b (step specified w (opens count target value) .observation) ≡ enterOpening b count target value
+  unfolding step byCard enter
+  opening-entered count target value few = rw (opens-unrefused cardId hostId w b f count target value (omega arith))
+
+  -- a message of no bytes as the first of a frame, of a transaction that takes more
+  pub adding-entered : (t : ℕ) → t < length (b .transactions) → t < transSpace
+      → inAll b t < needed (transactionAt b t .count) → b .building ≡ [] → length (b .frames) < releasedCount b + 64 → (at : ℕ)
+      → bookStep b (step specified w (adds t at []) .observation) ≡ enterMessage b t at []
+  unfolding step byCard enter finished
+  adding-entered t known fits room empty free at =
+      rw (add-done c slots b (f .cardFor) (f .sound) t at [] fits
+      (adds-unrefused cardId hostId w b f t from-low known fits room empty free))
+    where
+      unfinished : finished b t ≡ false
+      unfinished =
+          not-full (transactionAt b t) t (releasedMessages b)
+          (omega (
+            arith,
+            room,
+            count-prefix t (b .frames) (releasedCount b),
+            count-append t (messagesIn anyFrame (b .frames)) (b .building),
+          ))
+
+      from-low : lowUnfinished b ≤ t
+      from-low = leading-fails (finished b) (length (b .transactions)) t unfinished
+
+  pub sealing-entered : 0 < length (b .building) → bookStep b (step specified w seals .observation) ≡ enterSealing b
+  unfolding step byCard enter
+  sealing-entered h = rw (seal-done c slots b (f .cardFor) (f .sound) (seals-unrefused cardId hostId w b f h))
+
+  pub showing-entered : (n : ℕ) → releasedCount b ≤ n → n < length (b .frames) → frameAt b n .acknowledged ≡ false
+      → bookStep b (step specified w (shows (n % frameSpace)) .observation) ≡ enterHandOut b (frameCopy n)
+  unfolding step byCard enter shown
+  showing-entered n least most isOpen =
+      rw (
+        shows-unrefused cardId hostId w b f n least most isOpen,
+        latest-is frameSpace (lit< tt) (length (b .frames)) n most (omega (arith, f .sound .framesFit)),
+      )
+
+  -- an acknowledgement that an answer called for
+  pub reading-entered : (k x : ℕ) → getElem? (b .acksDue) k ≡ some x
+      → bookStep b (step specified w (reads k) .observation) ≡ enterAck b (some x)
+  unfolding step byCard enter
+  reading-entered k x q = go (along-at (Acknowledges cardId hostId) [] (w .acks) (b .acksDue) (f .rest .acksAre) k)
+    where
+      go : Found (Acknowledges cardId hostId) [] (w .acks) (b .acksDue) k
+          → bookStep b (step specified w (reads k) .observation) ≡ enterAck b (some x)
+      go (inl p) = absurd (none-some x (sym (p .0) ∙ q))
+      go (inr p) =
+          rw (p .3, read-ack cardId hostId cardFits hostFits w b f (p .0 % frameSpace) (mod-lt (p .0) (lit< tt)), q)
+
+  pub copy-at : (k : ℕ) (x : HandOut) → getElem? (b .handOuts) k ≡ some x
+      → Copied cardId hostId b (getD (w .handOuts) k []) x
+  copy-at k x q = go (along-at (Copied cardId hostId b) [] (w .handOuts) (b .handOuts) (f .rest .copies) k)
+    where
+      go : Found (Copied cardId hostId b) [] (w .handOuts) (b .handOuts) k
+          → Copied cardId hostId b (getD (w .handOuts) k []) x
+      go (inl p) = absurd (none-some x (sym (p .0) ∙ q))
+      go (inr p) =
+          let same : some (p .0) ≡ some x = sym (p .1) ∙ q in
+          let is : p .0 ≡ x = cc in
+          subst (Copied cardId hostId b (getD (w .handOuts) k [])) is (p .3)
