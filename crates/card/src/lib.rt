@@ -7,7 +7,7 @@ use seq::FrameNo;
 use seq::TransNo;
 use wire::MessageHeader;
 ghost use mathlib.Core.Path.{_≡_};
-ghost use mathlib.Core.Bool.{Bool, true, false, _&&_};
+ghost use mathlib.Core.Bool.{Bool, true, false, cond, _&&_};
 ghost use Prim.Native.Nat.{_+_, _≤_, _<_};
 ghost use mathlib.Core.List.{[]};
 ghost use lib.Dec.{eqb, ltb};
@@ -180,16 +180,19 @@ fn is_data_for_bare(card: Card, t: TransNo, payload: &[u8]) -> bool
     0 < payload.len()
 }
 
-// Whether a message with this data would end past the limit.
-fn passes_limit(card: Card, payload: &[u8]) -> bool
-    ensures { λ r. ⌜ r ≡ ltb (card .limit) (headerPlace card + 24 + length (now (payload .entry))) ⌝ }
+// 22 where a message with this data would end past the limit.
+fn limit_refusal(card: Card, payload: &[u8]) -> u8
+    ensures { λ r. ⌜ r ≡ cond (ltb (card .limit) (headerPlace card + 24 + length (now (payload .entry)))) 22 0 ⌝ }
 {
     let limit = card.limit as usize;
     let start = header_place(card) + 24;
     if limit < start {
-        return true;
+        return refusal::FRAME_FULL;
     }
-    limit - start < payload.len()
+    if limit - start < payload.len() {
+        return refusal::FRAME_FULL;
+    }
+    0
 }
 
 fn add_refusal(card: Card, slots: &[u8], t: TransNo, payload: &[u8]) -> u8
@@ -209,10 +212,7 @@ fn add_refusal(card: Card, slots: &[u8], t: TransNo, payload: &[u8]) -> u8
     if 64 <= window.unreleased() {
         return refusal::FRAME_WINDOW_FULL;
     }
-    if passes_limit(card, payload) {
-        return refusal::FRAME_FULL;
-    }
-    0
+    limit_refusal(card, payload)
 }
 
 // The header of a message of transaction t with data for an address.

@@ -9,7 +9,7 @@ use Rattle.card.proofs.add_refusal.Reads as reads
 use Rattle.card.proofs.add_refusal.Lts as lts
 use Rattle.card.proofs.is_data_for_bare.Reads as is-data-for-bare-reads
 use Rattle.card.proofs.is_fitting.Reads as is-fitting-reads
-use Rattle.card.proofs.passes_limit.Reads as passes-limit-reads
+use Rattle.card.proofs.limit_refusal.Reads as limit-refusal-reads
 use Rattle.send_window.proofs.SendWindow.unreleased.Reads as unreleased-reads
 use Rattle.sendings.proofs.Sendings.takes.Reads as takes-reads
 
@@ -68,40 +68,22 @@ returns-4 c =
       le-leb 64 _ (c .if4 .taken),
     )
 
-passes-limit-requires : tie.Need-passes-limit-requires
-passes-limit-requires c κs = search needs
+limit-refusal-requires : tie.Need-limit-refusal-requires
+limit-refusal-requires c κs = search needs
 
 returns-5 : tie.Need-returns-5
 unfolding addRefusal
 returns-5 c =
     rw (
-      ← c .before .before .before .before .before .before .before .before .before .before .before .is-fitting .ensures,
-      c .before .before .before .before .before .before .before .before .before .before .if1 .left,
-      ← c .before .before .before .before .before .before .before .before .takes .ensures,
-      c .before .before .before .before .before .before .before .if2 .left,
-      ← c .before .before .before .before .before .before .is-data-for-bare .ensures,
-      c .before .before .before .before .before .if3 .left,
-      ← c .before .before .before .unreleased .ensures,
-      lt-leb 64 _ (c .before .before .if4 .left),
-      ← c .before .passes-limit .ensures,
-      c .if5 .taken,
-    )
-
-returns-6 : tie.Need-returns-6
-unfolding addRefusal
-returns-6 c =
-    rw (
-      ← c .before .before .before .before .before .before .before .before .before .before .before .is-fitting .ensures,
-      c .before .before .before .before .before .before .before .before .before .before .if1 .left,
-      ← c .before .before .before .before .before .before .before .before .takes .ensures,
-      c .before .before .before .before .before .before .before .if2 .left,
-      ← c .before .before .before .before .before .before .is-data-for-bare .ensures,
-      c .before .before .before .before .before .if3 .left,
-      ← c .before .before .before .unreleased .ensures,
-      lt-leb 64 _ (c .before .before .if4 .left),
-      ← c .before .passes-limit .ensures,
-      c .if5 .left,
-    )
+      ← c .before .before .before .before .before .before .before .before .before .before .is-fitting .ensures,
+      c .before .before .before .before .before .before .before .before .before .if1 .left,
+      ← c .before .before .before .before .before .before .before .takes .ensures,
+      c .before .before .before .before .before .before .if2 .left,
+      ← c .before .before .before .before .before .is-data-for-bare .ensures,
+      c .before .before .before .before .if3 .left,
+      ← c .before .before .unreleased .ensures,
+      lt-leb 64 _ (c .before .if4 .left),
+    ) (c .limit-refusal .ensures)
 
 pub add-refusal-spec : {M : Type 1} → statement M
 add-refusal-spec =
@@ -116,6 +98,5 @@ add-refusal-spec =
     returns-3
     unreleased-requires
     returns-4
-    passes-limit-requires
-    returns-5
-    returns-6)
+    limit-refusal-requires
+    returns-5)
