@@ -1,7 +1,14 @@
 # The commands of this repository. `make test` is the gate.
 FRAMES ?= crates/replay/stdin
+PREFIX ?= /usr/local
+DESTDIR ?=
 
-.PHONY: test check replay bench clean
+# What the library for C is made from: its crate and those that crates.txt lists behind it.
+CAPI := target/staticlib/libcapi.a
+CAPI_CRATES := capi $(shell sed -n 's/^capi://p' crates.txt)
+CAPI_SOURCES := $(wildcard $(foreach crate,$(CAPI_CRATES),crates/$(crate)/src/*.rt crates/$(crate)/specs/*.antt))
+
+.PHONY: test check replay bench install clean
 
 test:
 	.ci/run
@@ -23,6 +30,19 @@ bench:
 	cd rust && cargo build --offline --profile bench-release -p bench --features proved
 	target/rust/bench-release/bench-host
 	target/rust/bench-release/bench-replay target/bin/replay
+
+# Puts header, static library and pkg-config file below PREFIX, with DESTDIR in front while copying: docs/C-API.md.
+install: $(CAPI)
+	install -d '$(DESTDIR)$(PREFIX)/include' '$(DESTDIR)$(PREFIX)/lib/pkgconfig'
+	install -m 644 include/logwhisker.h '$(DESTDIR)$(PREFIX)/include/logwhisker.h'
+	install -m 644 $(CAPI) '$(DESTDIR)$(PREFIX)/lib/liblogwhisker.a'
+	{ echo 'prefix=$(PREFIX)'; cat include/logwhisker.pc.in; } > '$(DESTDIR)$(PREFIX)/lib/pkgconfig/logwhisker.pc'
+	chmod 644 '$(DESTDIR)$(PREFIX)/lib/pkgconfig/logwhisker.pc'
+
+# An archive that comes out the same may keep its date, and would be asked for again at every install.
+$(CAPI): $(CAPI_SOURCES)
+	rt staticlib capi
+	touch $@
 
 clean:
 	rm -rf target

@@ -1,6 +1,6 @@
 /*
  * The proved library as a C program sees it: reading a frame's layout and asking
- * the class of a refusal number, one number a call. Link with libcapi.a, which
+ * the class of a refusal number, one number a call. Link with -llogwhisker, which
  * needs nothing else.
  *
  * A lent frame is a pointer and the number of bytes there, and starts at the
