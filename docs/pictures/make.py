@@ -1,0 +1,676 @@
+#!/usr/bin/env python3
+"""Makes the pictures of this folder: the frame format, the windows, the lives of frames and transactions, the crates.
+
+`make.py` writes them; `make.py --check` writes nothing and exits with 1 where a stored picture is not the one made here.
+The crates are read from crates.txt; PLACES says where each is drawn, and a crate without a place is an error.
+"""
+import math
+import pathlib
+import sys
+
+HERE = pathlib.Path(__file__).resolve().parent
+CRATES = HERE.parent.parent / "crates.txt"
+
+INK, SOFT, RULE = "#1b1f24", "#57606a", "#8c959f"
+BLUE, GREEN, AMBER, RED = "#cfe3fb", "#cdeed6", "#fbe6b5", "#f9d3d0"
+VIOLET, GREY, TEAL, ROSE = "#e3d8f8", "#eceff2", "#c9ecec", "#f6d9ea"
+
+
+# ---- drawing
+
+
+class Picture:
+    """An SVG on white. Texts are measured roughly, so that two that would overlap or leave the picture are an error."""
+
+    def __init__(self, name, width, height, title):
+        self.name, self.width, self.height, self.title = name, width, height, title
+        self.parts, self.boxes = [], []
+
+    def text(self, x, y, words, size=13, anchor="middle", colour=INK, bold=False, mono=False):
+        wide = len(words) * size * (0.6 if mono else 0.56 + 0.05 * bold)
+        left = x - {"start": 0, "middle": wide / 2, "end": wide}[anchor]
+        self.boxes.append((left, y - 0.75 * size, left + wide, y + 0.2 * size, words))
+        self.put_text(x, y, words, size, anchor, colour, bold, mono)
+
+    def put_text(self, x, y, words, size, anchor, colour, bold=False, mono=False, turn=None):
+        words = words.replace("&", "&amp;").replace("<", "&lt;").replace(">", "&gt;")
+        family = "monospace" if mono else "sans-serif"
+        weight = ' font-weight="bold"' if bold else ""
+        turned = f' transform="rotate({turn} {num(x)} {num(y)})"' if turn else ""
+        self.parts.append(
+            f'<text x="{num(x)}" y="{num(y)}" font-family="{family}" font-size="{size}" '
+            f'text-anchor="{anchor}" fill="{colour}"{weight}{turned}>{words}</text>'
+        )
+
+    def lines(self, x, y, rows, size=13, anchor="middle", colour=INK, lead=1.35):
+        for i, row in enumerate(rows):
+            self.text(x, y + i * size * lead, row, size, anchor, colour)
+
+    def rect(self, x, y, w, h, fill="none", stroke=INK, round=0, dash="", width=1.2):
+        dashed = f' stroke-dasharray="{dash}"' if dash else ""
+        self.parts.append(
+            f'<rect x="{num(x)}" y="{num(y)}" width="{num(w)}" height="{num(h)}" rx="{round}" '
+            f'fill="{fill}" stroke="{stroke}" stroke-width="{width}"{dashed}/>'
+        )
+
+    def path(self, d, stroke=INK, width=1.4, fill="none", dash="", arrow=False):
+        dashed = f' stroke-dasharray="{dash}"' if dash else ""
+        head = ' marker-end="url(#head)"' if arrow else ""
+        self.parts.append(f'<path d="{d}" fill="{fill}" stroke="{stroke}" stroke-width="{width}"{dashed}{head}/>')
+
+    def line(self, x1, y1, x2, y2, **style):
+        self.path(f"M{num(x1)} {num(y1)}L{num(x2)} {num(y2)}", **style)
+
+    def render(self):
+        self.refuse_overlaps()
+        head = (
+            f'<svg xmlns="http://www.w3.org/2000/svg" viewBox="0 0 {self.width} {self.height}" '
+            f'width="{self.width}" height="{self.height}" role="img">\n<title>{self.title}</title>\n'
+            '<defs><marker id="head" viewBox="0 0 8 8" refX="7.5" refY="4" markerWidth="8" markerHeight="8" '
+            f'markerUnits="userSpaceOnUse" orient="auto"><path d="M0 0.5L8 4L0 7.5z" fill="{INK}"/></marker></defs>\n'
+            f'<rect width="{self.width}" height="{self.height}" fill="#ffffff"/>\n'
+        )
+        return head + "\n".join(self.parts) + "\n</svg>\n"
+
+    def refuse_overlaps(self):
+        for i, (l, t, r, b, words) in enumerate(self.boxes):
+            if l < 0 or t < 0 or r > self.width or b > self.height:
+                raise SystemExit(f"make.py: {self.name}: '{words}' leaves the picture")
+            for l2, t2, r2, b2, other in self.boxes[:i]:
+                if l < r2 and l2 < r and t < b2 and t2 < b:
+                    raise SystemExit(f"make.py: {self.name}: '{words}' lies over '{other}'")
+
+
+def num(x):
+    """At most one decimal, so that the same picture comes out everywhere."""
+    short = f"{x:.1f}"
+    return short[:-2] if short.endswith(".0") else short
+
+
+def grouped(n):
+    return f"{n:,}"
+
+
+# ---- frame and message layout
+
+FRAME_HEADER = [("destination ID", 2), ("source ID", 2), ("frame number", 2), ("ACKStart", 2), ("ACKCount", 1), ("flags", 1)]
+MESSAGE_HEADER = [
+    ("transaction", 4), ("completion address", 4), ("completion value", 4), ("count of data messages", 2), ("unused", 2),
+    ("data address", 4), ("data length", 2), ("unused", 1), ("trailing", 1),
+]
+FRAME_HEAD = sum(size for _, size in FRAME_HEADER)
+MESSAGE_HEAD = sum(size for _, size in MESSAGE_HEADER)
+assert (FRAME_HEAD, MESSAGE_HEAD) == (10, 24)
+
+
+def next_header(end):
+    """The first offset of the form 10 + 8k that is not before `end`."""
+    return 10 + (end - 10 + 7) // 8 * 8
+
+
+def strip(p, x, y, unit, fields, fill):
+    """A header's fields to scale: offset above, name and size inside."""
+    at = 0
+    for name, size in fields:
+        left, wide = x + at * unit, size * unit
+        p.rect(left, y, wide, 62, GREY if name == "unused" else fill)
+        p.text(left + 3, y - 5, f"+{at}" if at else "0", 11, "start", SOFT, mono=True)
+        rows = split_words(name, int(wide / 6.6))
+        size_in = min(11, round(wide / (0.57 * max(map(len, rows))), 1))
+        for i, row in enumerate(rows):
+            p.text(left + wide / 2, y + 33 - 7 * len(rows) + 14 * i, row, size_in)
+        p.text(left + wide / 2, y + 56, f"{size} byte{'s' * (size > 1)}", 10, colour=SOFT)
+        at += size
+    p.text(x + at * unit, y - 5, f"{at}", 11, "end", SOFT, mono=True)
+
+
+def split_words(name, most):
+    rows = [""]
+    for word in name.split():
+        if rows[-1] and len(rows[-1]) + 1 + len(word) > most:
+            rows.append("")
+        rows[-1] = (rows[-1] + " " + word).strip()
+    return rows
+
+
+def frame_parts(lengths):
+    """The parts of a frame whose messages have these data lengths: (kind, start, end)."""
+    parts, at = [("frame header", 0, FRAME_HEAD)], FRAME_HEAD
+    for i, length in enumerate(lengths):
+        parts.append((f"message header {i + 1}", at, at + MESSAGE_HEAD))
+        end = at + MESSAGE_HEAD + length
+        parts.append((f"data {i + 1}", at + MESSAGE_HEAD, end))
+        at = next_header(end)
+        if i + 1 < len(lengths):
+            parts.append(("gap", end, at))
+    return parts
+
+
+def frame_bar(p, x, y, unit, parts):
+    """The whole frame to scale, with the offsets at which its parts start."""
+    fills = {"f": BLUE, "m": GREEN, "d": AMBER, "g": "#ffffff"}
+    for name, start, end in parts:
+        left, wide = x + start * unit, (end - start) * unit
+        p.rect(left, y, wide, 44, fills[name[0]], dash="3 3" if name == "gap" else "")
+        p.text(left + 2, y - 6, str(start), 11, "start", SOFT, mono=True)
+        rows = split_words(name, 40 if name[0] in "fm" else 4)
+        for i, row in enumerate(rows):
+            p.text(left + wide / 2, y + 34 - 7 * len(rows) + 14 * i, row, 12 if name[0] in "fm" else 11)
+    last = parts[-1][2]
+    p.text(x + last * unit + 4, y - 6, str(last), 11, "start", SOFT, mono=True)
+    p.line(x + last * unit, y - 18, x + last * unit, y + 62, stroke=RED_INK, width=2)
+    for k in range((last - 10) // 8 + 1):
+        p.line(x + (10 + 8 * k) * unit, y + 44, x + (10 + 8 * k) * unit, y + 51, stroke=SOFT, width=1)
+
+
+RED_INK = "#a40e26"
+
+
+def draw_frame():
+    p = Picture("frame.svg", 1020, 640, "A frame with two messages, its headers and their offsets")
+    lengths = (5, 4)
+    parts = frame_parts(lengths)
+    x, unit, y = 30, 13, 78
+    p.text(x, 30, f"A frame with two messages, of {lengths[0]} and {lengths[1]} bytes of data", 17, "start", bold=True)
+    p.text(x, 50, "Offsets in bytes from the frame's first. All numbers little endian. At most 9,000 bytes.", 12, "start", SOFT)
+    frame_bar(p, x, y, unit, parts)
+    gap = parts[3]
+    second = gap[2]
+    p.text(x, y + 66, "ticks: offsets 10 + 8k, the only ones at which a message header starts", 11, "start", SOFT)
+    p.text(x + gap[1] * unit - 4, y + 84, f"gap {gap[1]} to {gap[2] - 1}: written as zeros, ignored on reading;", 11, "start")
+    p.text(x + gap[1] * unit - 4, y + 99,
+           f"{second} = 10 + 8 * {(second - 10) // 8} is the first such offset not before {gap[1]}", 11, "start")
+    p.text(x + parts[-1][2] * unit, y + 118, "nothing is padded after the last message;", 11, "end", RED_INK)
+    p.text(x + parts[-1][2] * unit, y + 133, "a reader ignores whatever stands there", 11, "end", RED_INK)
+
+    top = 250
+    p.text(x, top - 24, "Frame header, 10 bytes", 15, "start", bold=True)
+    strip(p, x, top, 60, FRAME_HEADER, BLUE)
+    p.lines(x + 618, top + 6, [
+        "flags: bit 0 is set exactly if there is at least",
+        "one message; bits 1 to 7 are zero (else refusal 4)",
+        "ACKCount n > 0 acknowledges n frame numbers",
+        "from ACKStart on, modulo 65,536; with n = 0",
+        "ACKStart is written 0 and ignored on reading",
+    ], 11.5, "start", lead=1.3)
+
+    top = 394
+    p.text(x, top - 24, "Message header, 24 bytes; offsets from its own start", 15, "start", bold=True)
+    strip(p, x, top, 40, MESSAGE_HEADER, GREEN)
+    p.lines(x, top + 88, [
+        "trailing: 1 where another message follows, 0 at the last; 1 is read as \"another follows\", all else as \"last\"",
+        "unused: written 0, ignored on reading          data: follows the header at once, as many bytes as data length says",
+        "completion: its 4-byte value is written at its address, straight after the data of the message that completes the transaction",
+        "count 0: one bare message of data length 0, which carries the completion alone",
+    ], 11.5, "start", lead=1.5)
+
+    top = 580
+    p.text(x, top - 8, "Acknowledgement frame: a frame header alone", 15, "start", bold=True)
+    p.text(x, top + 14, "10 bytes, flags 0; the frame number is the one that its sender's next message frame will have", 11.5, "start")
+    p.text(x, top + 32, "of frame 0, from 1 to 2:", 11.5, "start", SOFT)
+    p.text(x + 160, top + 32, "02 00  01 00  00 00  00 00  01  00", 12, "start", mono=True)
+    return p
+
+
+# ---- the windows
+
+FRAMES, WINDOW, HALF = 65536, 64, 32768
+TRANSACTIONS, OPEN = 2 ** 32, 32
+
+
+def point(cx, cy, r, turn):
+    """The point at a part `turn` of a whole turn, clockwise from the top."""
+    angle = 2 * math.pi * turn
+    return cx + r * math.sin(angle), cy - r * math.cos(angle)
+
+
+def arc(p, cx, cy, inner, outer, start, end, fill):
+    (a, b), (c, d) = point(cx, cy, outer, start), point(cx, cy, outer, end)
+    (e, f), (g, h) = point(cx, cy, inner, end), point(cx, cy, inner, start)
+    large = 1 if end - start > 0.5 else 0
+    p.path(
+        f"M{num(a)} {num(b)}A{outer} {outer} 0 {large} 1 {num(c)} {num(d)}L{num(e)} {num(f)}"
+        f"A{inner} {inner} 0 {large} 0 {num(g)} {num(h)}z", fill=fill,
+    )
+
+
+def direction(p, cx, cy, r):
+    (a, b), (c, d) = point(cx, cy, r, 0.55), point(cx, cy, r, 0.70)
+    p.path(f"M{num(a)} {num(b)}A{r} {r} 0 0 1 {num(c)} {num(d)}", stroke=SOFT, arrow=True)
+
+
+def edge_label(p, cx, cy, r, turn, words, colour=INK):
+    (a, b), (c, d) = point(cx, cy, r, turn), point(cx, cy, r + 12, turn)
+    p.line(a, b, c, d, stroke=SOFT, width=1)
+    side = math.sin(2 * math.pi * turn)
+    anchor = "start" if side > 0.05 else "end" if side < -0.05 else "middle"
+    tx, ty = point(cx, cy, r + 17, turn)
+    p.text(tx, ty + 4, words, 12, anchor, colour, mono=True)
+
+
+def frame_ring(p, cx, cy):
+    inner, outer = 92, 132
+    arc(p, cx, cy, inner, outer, 0.0, 0.14, GREEN)
+    arc(p, cx, cy, inner, outer, 0.14, 0.5, RED)
+    arc(p, cx, cy, inner, outer, 0.5, 1.0, AMBER)
+    p.lines(cx, cy - 38, ["d = (number - next)", f"mod {grouped(FRAMES)}"], 12)
+    direction(p, cx, cy, 74)
+    p.text(cx, cy + 22, "numbers grow", 11, colour=SOFT)
+    p.text(cx, cy + 38, "clockwise", 11, colour=SOFT)
+    for turn, words in [(0.022, "0 = next"), (0.118, str(WINDOW - 1)), (0.165, str(WINDOW)), (0.475, grouped(HALF - 1)),
+                        (0.525, grouped(HALF)), (0.978, grouped(FRAMES - 1))]:
+        edge_label(p, cx, cy, outer, turn, words)
+
+
+def verdicts(p, x, y, rows):
+    for i, (fill, left, right) in enumerate(rows):
+        p.rect(x, y + 24 * i - 12, 15, 15, fill)
+        p.text(x + 24, y + 24 * i, left, 12, "start", mono=True)
+        p.text(x + 172, y + 24 * i, right, 12, "start")
+
+
+def transaction_ring(p, cx, cy):
+    inner, outer = 92, 132
+    arc(p, cx, cy, inner, outer, 0.0, 0.14, GREEN)
+    arc(p, cx, cy, inner, outer, 0.14, 1.0, RED)
+    p.lines(cx, cy - 38, ["e = (number - lowest)", "mod " + grouped(TRANSACTIONS)], 11.5)
+    direction(p, cx, cy, 74)
+    p.text(cx, cy + 22, "numbers grow", 11, colour=SOFT)
+    p.text(cx, cy + 38, "clockwise", 11, colour=SOFT)
+    for turn, words in [(0.022, "0 = lowest"), (0.118, str(OPEN - 1)), (0.165, str(OPEN)), (0.978, grouped(TRANSACTIONS - 1))]:
+        edge_label(p, cx, cy, outer, turn, words)
+
+
+def cells(p, x, y, first, space, marked, shown, window, note):
+    """A window's cells from `first` on, as far as shown, with the marked ones filled; returns nothing."""
+    wide = 54 if space == FRAMES else 98
+    p.text(x, y - 10, note, 12, "start")
+    for i in range(shown):
+        number = (first + i) % space
+        p.rect(x + i * wide, y, wide, 26, GREEN if number in marked else "#ffffff")
+        p.text(x + i * wide + wide / 2, y + 17, grouped(number), 11, mono=True)
+        p.text(x + i * wide + wide / 2, y + 40, str(i), 10, colour=SOFT, mono=True)
+    p.text(x + shown * wide + 22, y + 17, ". . .", 12)
+    last = (first + window - 1) % space
+    p.rect(x + shown * wide + 44, y, 54, 26, GREEN if last in marked else "#ffffff")
+    p.text(x + shown * wide + 71, y + 17, grouped(last), 11, mono=True)
+    p.text(x + shown * wide + 71, y + 40, str(window - 1), 10, colour=SOFT, mono=True)
+
+
+def passed(first, space, marked):
+    """Where the window starts once it has moved past consecutive marked numbers."""
+    while first in marked:
+        first = (first + 1) % space
+    return first
+
+
+def draw_windows():
+    p = Picture("windows.svg", 1040, 860, "The window of 64 frame numbers and the window of 32 transactions")
+    p.text(30, 32, "Frame numbers at the host: a window of 64 of 65,536", 15, "start", bold=True)
+    p.text(540, 32, "Transactions at the host: a window of 32 of 2^32", 15, "start", bold=True)
+    frame_ring(p, 265, 220)
+    transaction_ring(p, 795, 220)
+    p.text(30, 52, "not to scale: the windows are drawn larger than they are", 11, "start", SOFT)
+    verdicts(p, 30, 408, [
+        (GREEN, "0 to 63", "in the window: new, or accepted before: again"),
+        (RED, "64 to 32,767", "ahead: refusal 6"),
+        (AMBER, "32,768 to 65,535", "behind: again"),
+    ])
+    verdicts(p, 600, 408, [
+        (GREEN, "0 to 31", "in the window; closed: refusal 8"),
+        (RED, "32 and above", "outside: refusal 7"),
+    ])
+    first, marked = 65530, {65531, 65532, 3}
+    p.text(30, 510, "The window comes round with the numbers", 16, "start", bold=True)
+    cells(p, 30, 548, first, FRAMES, marked, 11, WINDOW, "next is 65,530; 65,531, 65,532 and 3 are accepted (3 has d = 9):")
+    moved = passed(first, FRAMES, marked | {first})
+    cells(p, 30, 634, moved, FRAMES, marked, 11, WINDOW,
+          f"65,530 is accepted: next moves past every consecutive accepted number, to {grouped(moved)} (3 has d = {(3 - moved) % FRAMES}):")
+    p.text(30, 700, f"With next 3, frame 65,530 has d = {grouped((65530 - 3) % FRAMES)}: behind.", 12, "start")
+    lowest = 4294967290
+    cells(p, 30, 754, lowest, TRANSACTIONS, set(), 8, OPEN,
+          f"Transactions: lowest not complete 4,294,967,290; number {(lowest + 31) % TRANSACTIONS} is the last in the window, "
+          f"{(lowest + 32) % TRANSACTIONS} gets refusal 7:")
+    p.text(30, 826, "The card's side: with 64 sealed frames not released a message is not added (21); with 32 transactions from the lowest", 12, "start")
+    p.text(30, 844, "unfinished one on, open or finished, none is opened (20).", 12, "start")
+    return p
+
+
+# ---- lives
+
+STATE_W, STATE_H = 150, 54
+
+
+def state(p, x, y, name, under, fill):
+    p.rect(x, y, STATE_W, STATE_H, fill, round=8)
+    p.text(x + STATE_W / 2, y + 23, name, 14, bold=True)
+    p.text(x + STATE_W / 2, y + 42, under, 10.5, colour=SOFT)
+
+
+def step_to(p, x, y, above, below=()):
+    """The arrow from the state at x to the one on its right, with what brings it about."""
+    start, end = x + STATE_W, x + 283
+    p.line(start, y + STATE_H / 2, end - 1, y + STATE_H / 2, arrow=True)
+    for i, row in enumerate(above):
+        p.text((start + end) / 2, y + STATE_H / 2 - 6 - 13 * (len(above) - 1 - i), row, 10.5)
+    for i, row in enumerate(below):
+        p.text((start + end) / 2, y + STATE_H / 2 + 15 + 13 * i, row, 10.5)
+
+
+def meanwhile(p, x, y, rows):
+    """What may happen in a state without leaving it."""
+    for i, row in enumerate(rows):
+        p.text(x + STATE_W / 2, y + STATE_H + 17 + 14 * i, row, 10.5, colour=INK)
+
+
+def lane(p, y, title, states, steps, whiles):
+    p.text(24, y - 18, title, 15, "start", bold=True)
+    for i, (name, under, fill) in enumerate(states):
+        state(p, 24 + 283 * i, y, name, under, fill)
+        meanwhile(p, 24 + 283 * i, y, whiles[i])
+    for i, (above, below) in enumerate(steps):
+        step_to(p, 24 + 283 * i, y, above, below)
+
+
+def card_frame(p, y):
+    lane(p, y, "A frame at the card", [
+        ("being built", "in slot number mod 64", BLUE),
+        ("held", "sealed, not acknowledged", GREEN),
+        ("acknowledged", "its slot stays taken", AMBER),
+        ("released", "its slot is free", GREY),
+    ], [
+        (["seal: it gets the", "next frame number"], []),
+        (["an arriving", "range covers it"], []),
+        (["all sealed before it", "are acknowledged"], ["(at once where they", "already are)"]),
+    ], [
+        ["add: one message more", "past L: refusal 22", "64 not released: 21"],
+        ["shown or chosen, and sent,", "as often as the caller likes"],
+        ["no longer shown: 25", "counts among the 64 of 21"],
+        ["further acknowledgements", "of it are ignored"],
+    ])
+
+
+def host_frame(p, y):
+    lane(p, y, "A frame's number at the host, d = (number - next) mod 65,536", [
+        ("ahead", "d 64 to 32,767", RED),
+        ("new", "d 0 to 63, not marked", BLUE),
+        ("accepted", "d 1 to 63, marked", GREEN),
+        ("behind", "d 32,768 to 65,535", AMBER),
+    ], [
+        (["next moves on"], []),
+        (["it arrives and no", "message is refused"], ["all take effect", "in their order"]),
+        (["next moves", "past it"], ["(at once where", "it is next)"]),
+    ], [
+        ["arrives: refusal 6"],
+        ["arrives, a message is refused:", "7 to 12, not a byte is written"],
+        ["arrives: again"],
+        ["arrives: again"],
+    ])
+    bottom = y + STATE_H + 26
+    right, left = 24 + 283 * 3 + STATE_W / 2, 24 + STATE_W / 2
+    p.path(f"M{num(right)} {bottom}V{bottom + 24}H{num(left)}V{bottom + 1}", stroke=SOFT, dash="4 3", arrow=True)
+    p.text((left + right) / 2, bottom + 40, "the number comes round: d falls from 32,768 to 32,767, and a later frame bears it", 10.5)
+    p.text(24, bottom + 62, "Whatever the number: refusals 1 to 5 come first, then a clear flag is answered \"no messages\". "
+           "Accepted and again are each acknowledged.", 11.5, "start", SOFT)
+
+
+def card_transaction(p, y):
+    lane(p, y, "A transaction at the card", [
+        ("opened", "count and completion set", BLUE),
+        ("adding", "fewer than its messages", BLUE),
+        ("all added", "none more is taken", GREEN),
+        ("finished", "marked, and stays so", GREY),
+    ], [
+        (["its first message", "is added"], []),
+        (["its last message", "is added"], []),
+        (["all its messages lie", "in released frames"], []),
+    ], [
+        ["opening gives the next number;", "32 from the lowest unfinished", "one on: 20 instead"],
+        ["add: one message more", "into the frame being built"],
+        ["add: refusal 23", "frames are sealed,", "acknowledged, released"],
+        ["add: refusal 23", "the window of 32 moves past", "consecutive finished ones"],
+    ])
+    p.text(24, y + 130, "Count n above 0 takes n messages; count 0 takes one bare message, without data (else 27). "
+           "One message alone leads from opened to all added.", 11.5, "start", SOFT)
+
+
+def host_transaction(p, y):
+    lane(p, y, "A transaction's number at the host, e = (number - lowest) mod 4,294,967,296", [
+        ("not open", "e 0 to 31", BLUE),
+        ("open", "received < count", GREEN),
+        ("closed", "e 1 to 31: complete", AMBER),
+        ("passed", "outside the window", GREY),
+    ], [
+        (["its first message", "opens it"], []),
+        (["received = count"], ["completion is written", "after that data"]),
+        (["the lowest is", "closed too"], ["(at once where it", "is the lowest)"]),
+    ], [
+        ["outside the window: 7", "count 0 with data: 10", "past the memory: 11, 12"],
+        ["other count, completion", "address or value: 9", "past the memory: 11, 12"],
+        ["a message of it:", "refusal 8"],
+        ["a message of it:", "refusal 7"],
+    ])
+    p.text(24, y + 130, "Count 0 and count 1: the message that opens it closes it. The window starts at the lowest transaction "
+           "not complete and moves past consecutive closed ones.", 11.5, "start", SOFT)
+
+
+def draw_lives():
+    p = Picture("lives.svg", 1050, 770, "The life of a frame and of a transaction at the card and at the host")
+    card_frame(p, 50)
+    host_frame(p, 230)
+    card_transaction(p, 434)
+    host_transaction(p, 622)
+    return p
+
+
+# ---- the crates
+
+# Floors: what is written beside them, their colour, and their rectangle: left, right, lowest row, highest row.
+FLOORS = {
+    "kit": ("libraries of the Rattle kit", "#ffffff", 560, 1070, 0, 0),
+    "ground": ("ground: no knowledge of frames", GREY, 30, 720, 1, 1),
+    "format": ("format: defined once, in wire", BLUE, 200, 560, 2, 3),
+    "card": ("card", GREEN, 30, 350, 4, 5),
+    "host": ("host", AMBER, 370, 570, 4, 5),
+    "C": ("C: numbers, byte slices", TEAL, 590, 740, 4, 4),
+    "theorem": ("theorem", VIOLET, 30, 300, 6, 6),
+    "tests": ("tests", GREY, 330, 590, 6, 6),
+    "lines": ("lines: characters and text", ROSE, 770, 1070, 2, 6),
+    "programs": ("programs: input and output", TEAL, 770, 1070, 7, 7),
+}
+
+# Where a crate is drawn: its floor, its row from below, and the middle of its box.
+PLACES = {
+    "bytes": ("kit", 0, 640), "io": ("kit", 0, 800), "libc": ("kit", 0, 890), "os": ("kit", 0, 1010),
+    "marks": ("ground", 1, 110), "seq": ("ground", 1, 270), "refusal": ("ground", 1, 460), "octets": ("ground", 1, 640),
+    "wire": ("format", 2, 380), "writer": ("format", 3, 290), "reader": ("format", 3, 470),
+    "send_window": ("card", 4, 110), "sendings": ("card", 4, 270), "card": ("card", 5, 190),
+    "transactions": ("host", 4, 480), "host": ("host", 5, 480),
+    "capi": ("C", 4, 660),
+    "delivery": ("theorem", 6, 165),
+    "edges": ("tests", 6, 400), "host_run": ("tests", 6, 520),
+    "hexline": ("lines", 2, 850), "buffer": ("lines", 2, 985),
+    "script": ("lines", 3, 985), "text": ("lines", 3, 880),
+    "report": ("lines", 6, 840), "pair_text": ("lines", 6, 975),
+    "replay": ("programs", 7, 840), "calls": ("programs", 7, 975),
+}
+
+TOP, PITCH, BOX = 60, 86, 32
+ROWS = 8
+
+
+def read_crates():
+    """What crates.txt says each crate may see, in its order."""
+    sees = {}
+    for line in CRATES.read_text().splitlines():
+        line = line.split("#")[0].strip()
+        if line:
+            name, _, seen = line.partition(":")
+            sees[name.strip()] = seen.split()
+    for name in sorted(set(sees) | {b for seen in sees.values() for b in seen}):
+        if name not in PLACES:
+            raise SystemExit(f"make.py: crate '{name}' of crates.txt has no place: give it one in PLACES")
+    for name, seen in sees.items():
+        for b in seen:
+            if PLACES[b][1] >= PLACES[name][1]:
+                raise SystemExit(f"make.py: '{name}' sees '{b}', which PLACES does not draw below it")
+    return sees
+
+
+def reached(sees, name):
+    """All that a crate sees, by way of others too."""
+    found = set()
+    for b in sees.get(name, []):
+        found |= {b} | reached(sees, b)
+    return found
+
+
+def direct(sees, name):
+    """What a crate sees and no other crate that it sees leads to."""
+    return [b for b in sees[name] if not any(b in reached(sees, c) for c in sees[name] if c != b)]
+
+
+def row_y(row):
+    return TOP + (ROWS - 1 - row) * PITCH
+
+
+def half(name):
+    return len(name) * 4.4 + 12
+
+
+def lanes_of(row, names):
+    """The free stretches of a row between its boxes."""
+    edges = sorted((PLACES[n][2] - half(n) - 9, PLACES[n][2] + half(n) + 9) for n in names if PLACES[n][1] == row)
+    free, left = [], 8
+    for start, end in edges:
+        if start > left:
+            free.append((left, start))
+        left = end
+    return free + [(left, 1092)]
+
+
+def way_through(row, ideal, names, taken):
+    """The place nearest to the straight way at which an arrow can pass a row, 7 away from every other one."""
+    best = None
+    for start, end in lanes_of(row, names):
+        x = start
+        while x <= end:
+            if all(abs(x - t) >= 7 for t in taken) and (best is None or abs(x - ideal) < abs(best - ideal)):
+                best = x
+            x += 1
+    if best is None:
+        raise SystemExit(f"make.py: no room for another arrow through row {row}")
+    taken.append(best)
+    return best
+
+
+def ports(arrows, end):
+    """Where on its boxes each arrow starts (end 0) or arrives (end 1): side by side, in the order of the other ends."""
+    at = {}
+    for name in sorted({arrow[end] for arrow in arrows}):
+        mine = sorted((a for a in arrows if a[end] == name), key=lambda a: (PLACES[a[1 - end]][2], a[1 - end]))
+        room = min(12, (2 * half(name) - 14) / max(1, len(mine) - 1))
+        for i, arrow in enumerate(mine):
+            at[arrow] = PLACES[name][2] + (i - (len(mine) - 1) / 2) * room
+    return at
+
+
+def draw_arrow(p, arrow, x1, x2, names, taken):
+    (a, b) = arrow
+    top, low = PLACES[a][1], PLACES[b][1]
+    x, y = x1, row_y(top) + BOX
+    d = f"M{num(x)} {num(y)}"
+    for row in range(top - 1, low, -1):
+        ideal = x1 + (x2 - x1) * (top - row) / (top - low)
+        pass_x = way_through(row, ideal, names, taken[row])
+        mid = (y + row_y(row) - 4) / 2
+        d += f"C{num(x)} {num(mid)} {num(pass_x)} {num(mid)} {num(pass_x)} {num(row_y(row) - 4)}V{num(row_y(row) + BOX + 4)}"
+        x, y = pass_x, row_y(row) + BOX + 4
+    mid, end = (y + row_y(low)) / 2, row_y(low) - 1
+    d += f"C{num(x)} {num(mid)} {num(x2)} {num(mid)} {num(x2)} {num(end - 6)}V{num(end)}"
+    p.path(d, width=1.1, stroke=INKS[PLACES[a][0]], arrow=True)
+
+
+INKS = {
+    "kit": INK, "ground": INK, "format": "#0a4fa8", "card": "#136c34", "host": "#8a5a00", "C": "#0b6a6a", "theorem": "#5a36a6",
+    "tests": SOFT, "lines": "#a3246f", "programs": "#0b6a6a",
+}
+
+
+def draw_crates(sees):
+    p = Picture("crates.svg", 1100, 740, "The crates by floors, and what each may see")
+    names = sorted(set(sees) | {b for seen in sees.values() for b in seen})
+    p.text(30, 28, "An arrow goes from a crate to one that it may see. Where another crate that it sees leads there, the arrow is left out.",
+           12.5, "start", SOFT)
+    for floor, (title, fill, left, right, low, high) in FLOORS.items():
+        if any(PLACES[n][0] == floor for n in names):
+            p.rect(left - 14, row_y(high) - 12, right - left + 28, row_y(low) - row_y(high) + BOX + 34, fill, RULE, 10,
+                   "4 3" if floor == "kit" else "", 0.8)
+            p.text(left - 6, row_y(low) + BOX + 16, title, 11, "start", SOFT)
+    arrows = [(a, b) for a in sorted(sees) for b in direct(sees, a)]
+    starts, ends, taken = ports(arrows, 0), ports(arrows, 1), [[] for _ in range(ROWS)]
+    for arrow in sorted(arrows, key=lambda a: (PLACES[a[0]][1] - PLACES[a[1]][1], a)):
+        draw_arrow(p, arrow, starts[arrow], ends[arrow], names, taken)
+    for name in names:
+        _, row, x = PLACES[name]
+        p.rect(x - half(name), row_y(row), 2 * half(name), BOX, "#ffffff", round=5, dash="" if name in sees else "3 2")
+        p.text(x, row_y(row) + 21, name, 13, mono=True)
+    return p
+
+
+def draw_seen(sees):
+    """Every line of crates.txt as a row of a table: a dot where the crate may see the one of the column."""
+    names = sorted(set(sees) | {b for seen in sees.values() for b in seen}, key=lambda n: (-PLACES[n][1], PLACES[n][2]))
+    rows = [n for n in names if n in sees]
+    columns = [n for n in names if any(n in seen for seen in sees.values())]
+    left, top, cell = 210, 130, 22
+    p = Picture("seen.svg", left + cell * len(columns) + 40, top + cell * len(rows) + 20, "What each crate may see, all of it")
+    p.text(20, 28, "A dot: the crate of the row may see the crate of the column", 13, "start", SOFT)
+    for i, a in enumerate(rows):
+        y = top + cell * i
+        p.rect(20, y, left - 20 + cell * len(columns), cell, FLOORS[PLACES[a][0]][1], "#ffffff", width=1)
+        p.text(28, y + 15, a, 12, "start", mono=True)
+        p.text(left - 10, y + 15, PLACES[a][0], 10, "end", SOFT)
+    for j, b in enumerate(columns):
+        x = left + cell * j + cell / 2
+        p.put_text(x + 4, top - 8, b, 12, "start", INK, mono=True, turn=-60)
+        p.line(x, top, x, top + cell * len(rows), stroke="#ffffff", width=1)
+        for i, a in enumerate(rows):
+            if b in sees[a]:
+                p.parts.append(f'<circle cx="{num(x)}" cy="{num(top + cell * i + cell / 2)}" r="5" fill="{INK}"/>')
+    return p
+
+
+# ---- writing and checking
+
+
+def pictures():
+    sees = read_crates()
+    return [draw_frame(), draw_windows(), draw_lives(), draw_crates(sees), draw_seen(sees)]
+
+
+def check(made):
+    wrong = [name for name, text in made.items() if not (HERE / name).is_file() or (HERE / name).read_bytes() != text]
+    strange = sorted(f.name for f in HERE.glob("*.svg") if f.name not in made)
+    for name in wrong:
+        print(f"docs/pictures/{name} is not what make.py makes: run docs/pictures/make.py")
+    for name in strange:
+        print(f"docs/pictures/{name} is made by nothing")
+    if wrong or strange:
+        sys.exit(1)
+    print(f"{len(made)} pictures are as make.py makes them")
+
+
+def main(arguments):
+    made = {p.name: p.render().encode() for p in pictures()}
+    if arguments == ["--check"]:
+        check(made)
+    elif arguments:
+        sys.exit("make.py: the only argument is --check")
+    else:
+        for name, text in made.items():
+            (HERE / name).write_bytes(text)
+
+
+if __name__ == "__main__":
+    main(sys.argv[1:])
