@@ -11,7 +11,7 @@ import sys
 HERE = pathlib.Path(__file__).resolve().parent
 CRATES = HERE.parent.parent / "crates.txt"
 
-INK, SOFT, RULE = "#1b1f24", "#57606a", "#8c959f"
+INK, SOFT, RULE, RED_INK = "#1b1f24", "#57606a", "#8c959f", "#a40e26"
 BLUE, GREEN, AMBER, RED = "#cfe3fb", "#cdeed6", "#fbe6b5", "#f9d3d0"
 VIOLET, GREY, TEAL, ROSE = "#e3d8f8", "#eceff2", "#c9ecec", "#f6d9ea"
 
@@ -26,20 +26,21 @@ class Picture:
         self.name, self.width, self.height, self.title = name, width, height, title
         self.parts, self.boxes = [], []
 
-    def text(self, x, y, words, size=13, anchor="middle", colour=INK, bold=False, mono=False):
+    def text(self, x, y, words, size=13, anchor="middle", colour=INK, bold=False, mono=False, halo=None):
         wide = len(words) * size * (0.6 if mono else 0.56 + 0.05 * bold)
         left = x - {"start": 0, "middle": wide / 2, "end": wide}[anchor]
         self.boxes.append((left, y - 0.75 * size, left + wide, y + 0.2 * size, words))
-        self.put_text(x, y, words, size, anchor, colour, bold, mono)
+        self.put_text(x, y, words, size, anchor, colour, bold, mono, halo=halo)
 
-    def put_text(self, x, y, words, size, anchor, colour, bold=False, mono=False, turn=None):
+    def put_text(self, x, y, words, size, anchor, colour, bold=False, mono=False, turn=None, halo=None):
         words = words.replace("&", "&amp;").replace("<", "&lt;").replace(">", "&gt;")
         family = "monospace" if mono else "sans-serif"
         weight = ' font-weight="bold"' if bold else ""
         turned = f' transform="rotate({turn} {num(x)} {num(y)})"' if turn else ""
+        around = f' stroke="{halo}" stroke-width="4" paint-order="stroke"' if halo else ""
         self.parts.append(
             f'<text x="{num(x)}" y="{num(y)}" font-family="{family}" font-size="{size}" '
-            f'text-anchor="{anchor}" fill="{colour}"{weight}{turned}>{words}</text>'
+            f'text-anchor="{anchor}" fill="{colour}"{weight}{turned}{around}>{words}</text>'
         )
 
     def lines(self, x, y, rows, size=13, anchor="middle", colour=INK, lead=1.35):
@@ -116,12 +117,11 @@ def strip(p, x, y, unit, fields, fill):
         p.rect(left, y, wide, 62, GREY if name == "unused" else fill)
         p.text(left + 3, y - 5, f"+{at}" if at else "0", 11, "start", SOFT, mono=True)
         rows = split_words(name, int(wide / 6.6))
-        size_in = min(11, round(wide / (0.57 * max(map(len, rows))), 1))
         for i, row in enumerate(rows):
-            p.text(left + wide / 2, y + 33 - 7 * len(rows) + 14 * i, row, size_in)
+            p.text(left + wide / 2, y + 33 - 7 * len(rows) + 14 * i, row, 11 if wide > 50 else 9)
         p.text(left + wide / 2, y + 56, f"{size} byte{'s' * (size > 1)}", 10, colour=SOFT)
         at += size
-    p.text(x + at * unit, y - 5, f"{at}", 11, "end", SOFT, mono=True)
+    p.text(x + at * unit + 3, y - 5, f"{at}", 11, "start", SOFT, mono=True)
 
 
 def split_words(name, most):
@@ -158,35 +158,34 @@ def frame_bar(p, x, y, unit, parts):
             p.text(left + wide / 2, y + 34 - 7 * len(rows) + 14 * i, row, 12 if name[0] in "fm" else 11)
     last = parts[-1][2]
     p.text(x + last * unit + 4, y - 6, str(last), 11, "start", SOFT, mono=True)
-    p.line(x + last * unit, y - 18, x + last * unit, y + 62, stroke=RED_INK, width=2)
+    p.line(x + last * unit, y - 18, x + last * unit, y + 106, stroke=RED_INK, width=2)
     for k in range((last - 10) // 8 + 1):
         p.line(x + (10 + 8 * k) * unit, y + 44, x + (10 + 8 * k) * unit, y + 51, stroke=SOFT, width=1)
 
 
-RED_INK = "#a40e26"
-
-
-def draw_frame():
-    p = Picture("frame.svg", 1020, 640, "A frame with two messages, its headers and their offsets")
-    lengths = (5, 4)
-    parts = frame_parts(lengths)
-    x, unit, y = 30, 13, 78
-    p.text(x, 30, f"A frame with two messages, of {lengths[0]} and {lengths[1]} bytes of data", 17, "start", bold=True)
-    p.text(x, 50, "Offsets in bytes from the frame's first. All numbers little endian. At most 9,000 bytes.", 12, "start", SOFT)
+def whole_frame(p, x, y, lengths):
+    parts, unit = frame_parts(lengths), 13
+    p.text(x, y - 48, f"A frame with two messages, of {lengths[0]} and {lengths[1]} bytes of data", 17, "start", bold=True)
+    p.text(x, y - 28, "Offsets in bytes from the frame's first. All numbers little endian. At most 9,000 bytes.",
+           12, "start", SOFT)
     frame_bar(p, x, y, unit, parts)
-    gap = parts[3]
-    second = gap[2]
-    p.text(x, y + 66, "ticks: offsets 10 + 8k, the only ones at which a message header starts", 11, "start", SOFT)
-    p.text(x + gap[1] * unit - 4, y + 84, f"gap {gap[1]} to {gap[2] - 1}: written as zeros, ignored on reading;", 11, "start")
-    p.text(x + gap[1] * unit - 4, y + 99,
-           f"{second} = 10 + 8 * {(second - 10) // 8} is the first such offset not before {gap[1]}", 11, "start")
-    p.text(x + parts[-1][2] * unit, y + 118, "nothing is padded after the last message;", 11, "end", RED_INK)
-    p.text(x + parts[-1][2] * unit, y + 133, "a reader ignores whatever stands there", 11, "end", RED_INK)
+    p.text(x, y + 66, "ticks: offsets 10 + 8k; a message header starts at these alone", 11, "start", SOFT)
+    _, end, second = parts[3]
+    p.line(x + (end + second) / 2 * unit, y + 46, x + (end + second) / 2 * unit, y + 72, stroke=SOFT, width=1)
+    p.lines(x + end * unit - 4, y + 84, [
+        f"gap {end} to {second - 1}: written as zeros, ignored on reading;",
+        f"{second} = 10 + 8 * {(second - 10) // 8} is the first such offset not before {end}",
+    ], 11, "start")
+    p.lines(x + parts[-1][2] * unit, y + 118, [
+        "nothing is padded after the last message;",
+        "a reader ignores whatever stands there",
+    ], 11, "end", RED_INK)
 
-    top = 250
-    p.text(x, top - 24, "Frame header, 10 bytes", 15, "start", bold=True)
-    strip(p, x, top, 60, FRAME_HEADER, BLUE)
-    p.lines(x + 618, top + 6, [
+
+def frame_header(p, x, y):
+    p.text(x, y - 24, "Frame header, 10 bytes", 15, "start", bold=True)
+    strip(p, x, y, 60, FRAME_HEADER, BLUE)
+    p.lines(x + 636, y + 6, [
         "flags: bit 0 is set exactly if there is at least",
         "one message; bits 1 to 7 are zero (else refusal 4)",
         "ACKCount n > 0 acknowledges n frame numbers",
@@ -194,21 +193,33 @@ def draw_frame():
         "ACKStart is written 0 and ignored on reading",
     ], 11.5, "start", lead=1.3)
 
-    top = 394
-    p.text(x, top - 24, "Message header, 24 bytes; offsets from its own start", 15, "start", bold=True)
-    strip(p, x, top, 40, MESSAGE_HEADER, GREEN)
-    p.lines(x, top + 88, [
+
+def message_header(p, x, y):
+    p.text(x, y - 24, "Message header, 24 bytes; offsets from its own start", 15, "start", bold=True)
+    strip(p, x, y, 40, MESSAGE_HEADER, GREEN)
+    p.lines(x, y + 88, [
         "trailing: 1 where another message follows, 0 at the last; 1 is read as \"another follows\", all else as \"last\"",
-        "unused: written 0, ignored on reading          data: follows the header at once, as many bytes as data length says",
-        "completion: its 4-byte value is written at its address, straight after the data of the message that completes the transaction",
+        "unused: written 0, ignored on reading",
+        "data: follows the header at once, as many bytes as data length says",
+        "completion: its 4-byte value goes to its address, straight after the data of the message that completes the transaction",
         "count 0: one bare message of data length 0, which carries the completion alone",
     ], 11.5, "start", lead=1.5)
 
-    top = 580
-    p.text(x, top - 8, "Acknowledgement frame: a frame header alone", 15, "start", bold=True)
-    p.text(x, top + 14, "10 bytes, flags 0; the frame number is the one that its sender's next message frame will have", 11.5, "start")
-    p.text(x, top + 32, "of frame 0, from 1 to 2:", 11.5, "start", SOFT)
-    p.text(x + 160, top + 32, "02 00  01 00  00 00  00 00  01  00", 12, "start", mono=True)
+
+def acknowledgement(p, x, y):
+    p.text(x, y - 8, "Acknowledgement frame: a frame header alone", 15, "start", bold=True)
+    p.text(x, y + 14, "10 bytes, flags 0; the frame number is the one that its sender's next message frame will have",
+           11.5, "start")
+    p.text(x, y + 32, "of frame 0, from 1 to 2:", 11.5, "start", SOFT)
+    p.text(x + 160, y + 32, "0200 0100 0000 0000 01 00", 12, "start", mono=True)
+
+
+def draw_frame():
+    p = Picture("frame.svg", 1020, 656, "A frame with two messages, its headers and their offsets")
+    whole_frame(p, 30, 78, (5, 4))
+    frame_header(p, 30, 250)
+    message_header(p, 30, 394)
+    acknowledgement(p, 30, 600)
     return p
 
 
@@ -266,7 +277,7 @@ def verdicts(p, x, y, rows):
     for i, (fill, left, right) in enumerate(rows):
         p.rect(x, y + 24 * i - 12, 15, 15, fill)
         p.text(x + 24, y + 24 * i, left, 12, "start", mono=True)
-        p.text(x + 172, y + 24 * i, right, 12, "start")
+        p.text(x + 182, y + 24 * i, right, 12, "start")
 
 
 def transaction_ring(p, cx, cy):
@@ -282,7 +293,7 @@ def transaction_ring(p, cx, cy):
 
 
 def cells(p, x, y, first, space, marked, shown, window, note):
-    """A window's cells from `first` on, as far as shown, with the marked ones filled; returns nothing."""
+    """The first cells of a window from `first` on, with the marked ones filled, and its last."""
     wide = 54 if space == FRAMES else 98
     p.text(x, y - 10, note, 12, "start")
     for i in range(shown):
@@ -312,27 +323,30 @@ def draw_windows():
     transaction_ring(p, 795, 220)
     p.text(30, 52, "not to scale: the windows are drawn larger than they are", 11, "start", SOFT)
     verdicts(p, 30, 408, [
-        (GREEN, "0 to 63", "in the window: new, or accepted before: again"),
+        (GREEN, "0 to 63", "in the window: judged; again if accepted before"),
         (RED, "64 to 32,767", "ahead: refusal 6"),
         (AMBER, "32,768 to 65,535", "behind: again"),
     ])
     verdicts(p, 600, 408, [
-        (GREEN, "0 to 31", "in the window; closed: refusal 8"),
-        (RED, "32 and above", "outside: refusal 7"),
+        (GREEN, "0 to 31", "in the window: judged; 8 if closed"),
+        (RED, "32 to 4,294,967,295", "outside: refusal 7"),
     ])
     first, marked = 65530, {65531, 65532, 3}
     p.text(30, 510, "The window comes round with the numbers", 16, "start", bold=True)
     cells(p, 30, 548, first, FRAMES, marked, 11, WINDOW, "next is 65,530; 65,531, 65,532 and 3 are accepted (3 has d = 9):")
     moved = passed(first, FRAMES, marked | {first})
     cells(p, 30, 634, moved, FRAMES, marked, 11, WINDOW,
-          f"65,530 is accepted: next moves past every consecutive accepted number, to {grouped(moved)} (3 has d = {(3 - moved) % FRAMES}):")
+          f"65,530 is accepted: next moves past every consecutive accepted number, to {grouped(moved)} "
+          f"(3 has d = {(3 - moved) % FRAMES}):")
     p.text(30, 700, f"With next 3, frame 65,530 has d = {grouped((65530 - 3) % FRAMES)}: behind.", 12, "start")
     lowest = 4294967290
     cells(p, 30, 754, lowest, TRANSACTIONS, set(), 8, OPEN,
           f"Transactions: lowest not complete 4,294,967,290; number {(lowest + 31) % TRANSACTIONS} is the last in the window, "
           f"{(lowest + 32) % TRANSACTIONS} gets refusal 7:")
-    p.text(30, 826, "The card's side: with 64 sealed frames not released a message is not added (21); with 32 transactions from the lowest", 12, "start")
-    p.text(30, 844, "unfinished one on, open or finished, none is opened (20).", 12, "start")
+    p.lines(30, 826, [
+        "The card's side: with 64 sealed frames not released no message is added (21); with 32 transactions from the",
+        "lowest unfinished one on, open or finished, none is opened (20).",
+    ], 12, "start", lead=1.5)
     return p
 
 
@@ -383,8 +397,8 @@ def card_frame(p, y):
         (["an arriving", "range covers it"], []),
         (["all sealed before it", "are acknowledged"], ["(at once where they", "already are)"]),
     ], [
-        ["add: one message more", "past L: refusal 22", "64 not released: 21"],
-        ["shown or chosen, and sent,", "as often as the caller likes"],
+        ["starts with its first message", "64 sealed not released: 21", "a message past L: 22"],
+        ["shown as often as asked for;", "chosen if the oldest held and", "no acknowledgement is lent"],
         ["no longer shown: 25", "counts among the 64 of 21"],
         ["further acknowledgements", "of it are ignored"],
     ])
@@ -397,7 +411,7 @@ def host_frame(p, y):
         ("accepted", "d 1 to 63, marked", GREEN),
         ("behind", "d 32,768 to 65,535", AMBER),
     ], [
-        (["next moves on"], []),
+        (["next moves on:", "d falls below 64"], []),
         (["it arrives and no", "message is refused"], ["all take effect", "in their order"]),
         (["next moves", "past it"], ["(at once where", "it is next)"]),
     ], [
@@ -409,7 +423,7 @@ def host_frame(p, y):
     bottom = y + STATE_H + 26
     right, left = 24 + 283 * 3 + STATE_W / 2, 24 + STATE_W / 2
     p.path(f"M{num(right)} {bottom}V{bottom + 24}H{num(left)}V{bottom + 1}", stroke=SOFT, dash="4 3", arrow=True)
-    p.text((left + right) / 2, bottom + 40, "the number comes round: d falls from 32,768 to 32,767, and a later frame bears it", 10.5)
+    p.text((left + right) / 2, bottom + 40, "the number comes round: d falls below 32,768, and a later frame bears it", 10.5)
     p.text(24, bottom + 62, "Whatever the number: refusals 1 to 5 come first, then a clear flag is answered \"no messages\". "
            "Accepted and again are each acknowledged.", 11.5, "start", SOFT)
 
@@ -417,7 +431,7 @@ def host_frame(p, y):
 def card_transaction(p, y):
     lane(p, y, "A transaction at the card", [
         ("opened", "count and completion set", BLUE),
-        ("adding", "fewer than its messages", BLUE),
+        ("adding", "some added, not all", BLUE),
         ("all added", "none more is taken", GREEN),
         ("finished", "marked, and stays so", GREY),
     ], [
@@ -425,7 +439,7 @@ def card_transaction(p, y):
         (["its last message", "is added"], []),
         (["all its messages lie", "in released frames"], []),
     ], [
-        ["opening gives the next number;", "32 from the lowest unfinished", "one on: 20 instead"],
+        ["it gets the next number;", "refusal 20 with 32 from the", "lowest unfinished one on"],
         ["add: one message more", "into the frame being built"],
         ["add: refusal 23", "frames are sealed,", "acknowledged, released"],
         ["add: refusal 23", "the window of 32 moves past", "consecutive finished ones"],
@@ -443,15 +457,15 @@ def host_transaction(p, y):
     ], [
         (["its first message", "opens it"], []),
         (["received = count"], ["completion is written", "after that data"]),
-        (["the lowest is", "closed too"], ["(at once where it", "is the lowest)"]),
+        (["all from the lowest", "up to it are closed"], ["(at once where it", "is the lowest)"]),
     ], [
-        ["outside the window: 7", "count 0 with data: 10", "past the memory: 11, 12"],
+        ["count 0 with data: 10", "past the memory: 11, 12"],
         ["other count, completion", "address or value: 9", "past the memory: 11, 12"],
         ["a message of it:", "refusal 8"],
         ["a message of it:", "refusal 7"],
     ])
-    p.text(24, y + 130, "Count 0 and count 1: the message that opens it closes it. The window starts at the lowest transaction "
-           "not complete and moves past consecutive closed ones.", 11.5, "start", SOFT)
+    p.text(24, y + 130, "Count 0 and count 1: the message that opens it closes it. A number outside the window, on either side: "
+           "refusal 7.", 11.5, "start", SOFT)
 
 
 def draw_lives():
@@ -470,11 +484,11 @@ FLOORS = {
     "kit": ("libraries of the Rattle kit", "#ffffff", 560, 1070, 0, 0),
     "ground": ("ground: no knowledge of frames", GREY, 30, 720, 1, 1),
     "format": ("format: defined once, in wire", BLUE, 200, 560, 2, 3),
-    "card": ("card", GREEN, 30, 350, 4, 5),
-    "host": ("host", AMBER, 370, 570, 4, 5),
-    "C": ("C: numbers, byte slices", TEAL, 590, 740, 4, 4),
-    "theorem": ("theorem", VIOLET, 30, 300, 6, 6),
-    "tests": ("tests", GREY, 330, 590, 6, 6),
+    "card": ("card", GREEN, 30, 336, 4, 5),
+    "host": ("host", AMBER, 374, 556, 4, 5),
+    "C": ("C: numbers, byte slices", TEAL, 598, 736, 4, 4),
+    "theorem": ("theorem", VIOLET, 30, 290, 6, 6),
+    "tests": ("tests", GREY, 334, 576, 6, 6),
     "lines": ("lines: characters and text", ROSE, 770, 1070, 2, 6),
     "programs": ("programs: input and output", TEAL, 770, 1070, 7, 7),
 }
@@ -485,7 +499,7 @@ PLACES = {
     "marks": ("ground", 1, 110), "seq": ("ground", 1, 270), "refusal": ("ground", 1, 460), "octets": ("ground", 1, 640),
     "wire": ("format", 2, 380), "writer": ("format", 3, 290), "reader": ("format", 3, 470),
     "send_window": ("card", 4, 110), "sendings": ("card", 4, 270), "card": ("card", 5, 190),
-    "transactions": ("host", 4, 480), "host": ("host", 5, 480),
+    "transactions": ("host", 4, 466), "host": ("host", 5, 466),
     "capi": ("C", 4, 660),
     "delivery": ("theorem", 6, 165),
     "edges": ("tests", 6, 400), "host_run": ("tests", 6, 520),
@@ -502,7 +516,7 @@ ROWS = 8
 def read_crates():
     """What crates.txt says each crate may see, in its order."""
     sees = {}
-    for line in CRATES.read_text().splitlines():
+    for line in CRATES.read_text(encoding="utf-8").splitlines():
         line = line.split("#")[0].strip()
         if line:
             name, _, seen = line.partition(":")
@@ -515,6 +529,14 @@ def read_crates():
             if PLACES[b][1] >= PLACES[name][1]:
                 raise SystemExit(f"make.py: '{name}' sees '{b}', which PLACES does not draw below it")
     return sees
+
+
+def refuse_crowding(names):
+    """Two boxes of a row must not touch."""
+    for a in names:
+        for b in names:
+            if a < b and PLACES[a][1] == PLACES[b][1] and abs(PLACES[a][2] - PLACES[b][2]) < half(a) + half(b) + 6:
+                raise SystemExit(f"make.py: '{a}' and '{b}' are too near to each other in PLACES")
 
 
 def reached(sees, name):
@@ -600,17 +622,20 @@ INKS = {
 def draw_crates(sees):
     p = Picture("crates.svg", 1100, 740, "The crates by floors, and what each may see")
     names = sorted(set(sees) | {b for seen in sees.values() for b in seen})
-    p.text(30, 28, "An arrow goes from a crate to one that it may see. Where another crate that it sees leads there, the arrow is left out.",
-           12.5, "start", SOFT)
+    refuse_crowding(names)
+    p.text(30, 28, "An arrow goes from a crate to one that it may see. Where another crate that it sees leads there, "
+           "the arrow is left out.", 12.5, "start", SOFT)
     for floor, (title, fill, left, right, low, high) in FLOORS.items():
         if any(PLACES[n][0] == floor for n in names):
             p.rect(left - 14, row_y(high) - 12, right - left + 28, row_y(low) - row_y(high) + BOX + 34, fill, RULE, 10,
                    "4 3" if floor == "kit" else "", 0.8)
-            p.text(left - 6, row_y(low) + BOX + 16, title, 11, "start", SOFT)
     arrows = [(a, b) for a in sorted(sees) for b in direct(sees, a)]
     starts, ends, taken = ports(arrows, 0), ports(arrows, 1), [[] for _ in range(ROWS)]
     for arrow in sorted(arrows, key=lambda a: (PLACES[a[0]][1] - PLACES[a[1]][1], a)):
         draw_arrow(p, arrow, starts[arrow], ends[arrow], names, taken)
+    for floor, (title, fill, left, _, low, _) in FLOORS.items():
+        if any(PLACES[n][0] == floor for n in names):
+            p.text(left - 6, row_y(low) + BOX + 16, title, 11, "start", SOFT, halo=fill)
     for name in names:
         _, row, x = PLACES[name]
         p.rect(x - half(name), row_y(row), 2 * half(name), BOX, "#ffffff", round=5, dash="" if name in sees else "3 2")
@@ -653,7 +678,7 @@ def check(made):
     wrong = [name for name, text in made.items() if not (HERE / name).is_file() or (HERE / name).read_bytes() != text]
     strange = sorted(f.name for f in HERE.glob("*.svg") if f.name not in made)
     for name in wrong:
-        print(f"docs/pictures/{name} is not what make.py makes: run docs/pictures/make.py")
+        print(f"docs/pictures/{name} is not what make.py makes: run 'make pictures'")
     for name in strange:
         print(f"docs/pictures/{name} is made by nothing")
     if wrong or strange:
