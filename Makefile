@@ -8,7 +8,7 @@ CAPI := target/staticlib/libcapi.a
 CAPI_CRATES := capi $(shell sed -n 's/^capi://p' crates.txt)
 CAPI_SOURCES := $(wildcard $(foreach crate,$(CAPI_CRATES),crates/$(crate)/src/*.rt crates/$(crate)/specs/*.antt))
 
-.PHONY: test check replay bench install clean
+.PHONY: test check replay bench install pictures clean
 
 test:
 	.ci/run
@@ -43,6 +43,10 @@ install: $(CAPI)
 $(CAPI): $(CAPI_SOURCES)
 	rt staticlib capi
 	touch $@
+
+# Makes the pictures anew; the gate asks for it after a change of crates.txt.
+pictures:
+	python3 docs/pictures/make.py
 
 clean:
 	rm -rf target
