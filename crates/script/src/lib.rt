@@ -359,7 +359,7 @@ fn no_numbers(at: usize) -> Numbers
 
 // The numbers of the words behind an index, each a space and a word.
 fn read_numbers(line: &[u8], from: usize, count: usize, most: [u32; 5]) -> Numbers
-    requires { ⌜ count ≤ 5 ⌝ }
+    requires { ⌜ (count ≤ 5) × (length most ≡ 5) ⌝ }
     ensures { λ r. ⌜ record { values = r .values; rest = drop (r .at) (now (line .entry)); good = r .good } ≡ readNumbers (take count most) 0 (0 ∷ 0 ∷ 0 ∷ 0 ∷ 0 ∷ []) (drop from (now (line .entry))) ⌝ }
 {
     let mut values = [0u32; 5];

@@ -1,3 +1,21 @@
+-- `script::gather` takes in character by character.
+-- Assumes nothing.
+use native.Mathlib.Omega.{arith}
+use Prim.Native.Nat.{_-_}
+use lib.ListN.{length}
+use mathlib.Core.Path.{refl, _∙_}
+use mathlib.Core.List.{List}
+use Prim.Native.Nat.{ℕ}
+use borrow.Author.Needs.{needs}
+use Rattle.script.proofs.Gathering.{
+  Gathers,
+  gathers-start,
+  gathers-turn,
+  gathers-kept,
+  gathers-newline,
+  gathers-end,
+  kept-full,
+}
 use Rattle.script.proofs.gather.Statement.{statement}
 use Rattle.script.proofs.gather.Tie as tie
 use Rattle.script.proofs.gather.Reads as reads
@@ -5,62 +23,52 @@ use Rattle.script.proofs.gather.Lts as lts
 use Rattle.script.proofs.keep.Reads as keep-reads
 
 abbrev Inv-loop : tie.InvT-loop
-Inv-loop len line₀ piece from kept₀ at₀ line kept at = ?
+Inv-loop len line₀ piece from kept₀ at₀ line kept at = Gathers line₀ piece from len line kept at
 
 abbrev μ-loop : tie.MeasureT-loop
-μ-loop len line₀ piece from kept₀ at₀ line kept at = ?
+μ-loop len line₀ piece from kept₀ at₀ line kept at = length piece - at
 
--- src/lib.rt:60:5
 loop-holds : tie.Need-loop-holds Inv-loop μ-loop
-loop-holds c = ?
+loop-holds c = gathers-start _ _ _ _
 
--- src/lib.rt:61:17
 shared-slice-read-c : tie.Need-shared-slice-read-c Inv-loop μ-loop
-shared-slice-read-c c = ?
+shared-slice-read-c c = omega arith
 
--- src/lib.rt:62:9
 add-at : tie.Need-add-at Inv-loop μ-loop
-add-at c = ?
+add-at c = omega arith
 
--- src/lib.rt:64:13
 same-length : tie.Need-same-length Inv-loop μ-loop
-same-length c = ?
+same-length c = c .before .before .before .loop .inv .size
 
--- src/lib.rt:64:13
 returns : tie.Need-returns Inv-loop μ-loop
-returns c = ?
+returns c = gathers-newline (c .before .before .before .loop .inv) (c .before .before .loop-test .taken) (c .if1 .taken)
 
--- src/lib.rt:60:5
 loop-less : tie.Need-loop-less Inv-loop μ-loop
-loop-less c = ?
+loop-less c = omega arith
 
--- src/lib.rt:60:5
 loop-again : tie.Need-loop-again Inv-loop μ-loop
-loop-again c = ?
+loop-again c = gathers-turn (c .before .before .before .before .loop .inv) _ _ (c .before .before .before .loop-test .taken) (c .before .if1 .left) (λ (cs : List ℕ). kept-full _ _ cs _ (c .if2 .taken)) refl
 
--- src/lib.rt:73:9
 keep-requires : tie.Need-keep-requires Inv-loop μ-loop
-keep-requires c κs = ?
+keep-requires c κs = search needs
 
--- src/lib.rt:74:9
 add-kept : tie.Need-add-kept Inv-loop μ-loop
-add-kept c = ?
+add-kept c = omega arith
 
--- src/lib.rt:60:5
 loop-less-2 : tie.Need-loop-less-2 Inv-loop μ-loop
-loop-less-2 c = ?
+loop-less-2 c = omega arith
 
--- src/lib.rt:60:5
 loop-again-2 : tie.Need-loop-again-2 Inv-loop μ-loop
-loop-again-2 c = ?
+loop-again-2 c =
+    let s = c .before .before .before .before in
+    gathers-kept (s .before .before .before .before .loop .inv) _ (c .before .before .keep .ensures) (s .before .before .before .loop-test .taken) (s .before .if1 .left)
+    (s .if2 .left)
 
--- src/lib.rt:54:1
 same-length-2 : tie.Need-same-length-2 Inv-loop μ-loop
-same-length-2 c = ?
+same-length-2 c = c .before .loop .inv .size
 
--- src/lib.rt:54:1
 returns-2 : tie.Need-returns-2 Inv-loop μ-loop
-returns-2 c = ?
+returns-2 c = gathers-end (c .before .loop .inv) (c .loop-test .left)
 
 pub gather-spec : {M : Type 1} → statement M
 gather-spec =

@@ -1,41 +1,40 @@
+-- `script::word_end` stops at the first space.
+-- Assumes nothing.
+use native.Mathlib.Omega.{arith}
+use Prim.Native.Nat.{_-_}
+use lib.ListN.{length}
+use Rattle.script.proofs.Wording.{InWord, in-word-start, in-word-turn, in-word-space, in-word-end}
 use Rattle.script.proofs.word_end.Statement.{statement}
 use Rattle.script.proofs.word_end.Tie as tie
 use Rattle.script.proofs.word_end.Reads as reads
 use Rattle.script.proofs.word_end.Lts as lts
 
 abbrev Inv-loop : tie.InvT-loop
-Inv-loop line from at₀ at = ?
+Inv-loop line from at₀ at = InWord line from at
 
 abbrev μ-loop : tie.MeasureT-loop
-μ-loop line from at₀ at = ?
+μ-loop line from at₀ at = length line - at
 
--- src/lib.rt:102:5
 loop-holds : tie.Need-loop-holds Inv-loop μ-loop
-loop-holds c = ?
+loop-holds c = in-word-start _ _
 
--- src/lib.rt:103:12
 shared-slice-read-if1 : tie.Need-shared-slice-read-if1 Inv-loop μ-loop
-shared-slice-read-if1 c = ?
+shared-slice-read-if1 c = omega arith
 
--- src/lib.rt:104:13
 returns : tie.Need-returns Inv-loop μ-loop
-returns c = ?
+returns c = in-word-space (c .before .before .before .loop .inv) (c .before .before .loop-test .taken) (c .if1 .taken)
 
--- src/lib.rt:106:9
 add-at : tie.Need-add-at Inv-loop μ-loop
-add-at c = ?
+add-at c = omega arith
 
--- src/lib.rt:102:5
 loop-less : tie.Need-loop-less Inv-loop μ-loop
-loop-less c = ?
+loop-less c = omega arith
 
--- src/lib.rt:102:5
 loop-again : tie.Need-loop-again Inv-loop μ-loop
-loop-again c = ?
+loop-again c = in-word-turn (c .before .before .before .loop .inv) (c .before .before .loop-test .taken) (c .if1 .left)
 
--- src/lib.rt:98:1
 returns-2 : tie.Need-returns-2 Inv-loop μ-loop
-returns-2 c = ?
+returns-2 c = in-word-end (c .before .loop .inv) (c .loop-test .left)
 
 pub word-end-spec : {M : Type 1} → statement M
 word-end-spec =

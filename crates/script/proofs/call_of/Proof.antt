@@ -1,0 +1,79 @@
+-- `script::call_of`: the name, the numbers that it takes, and the rest.
+-- Assumes nothing.
+use mathlib.Core.Path.{sym, _∙_}
+use native.Mathlib.Omega.{arith}
+use borrow.Author.Tests.{not-true, not-false}
+use lib.Seq.{length-take-le}
+use Rattle.script.proofs.Wording.{word-within}
+use Rattle.script.proofs.Calling.{few-numbers, too-long, bad-numbers, good-numbers}
+use borrow.Author.Needs.{needs}
+use Rattle.script.proofs.call_of.Statement.{statement}
+use Rattle.script.proofs.call_of.Tie as tie
+use Rattle.script.proofs.call_of.Reads as reads
+use Rattle.script.proofs.call_of.Lts as lts
+use Rattle.script.proofs.form_of.Reads as form-of-reads
+use Rattle.script.proofs.kind_of.Reads as kind-of-reads
+use Rattle.script.proofs.no_call.Reads as no-call-reads
+use Rattle.script.proofs.read_numbers.Reads as read-numbers-reads
+use Rattle.script.proofs.rest.Reads as rest-reads
+use Rattle.script.proofs.word_end.Reads as word-end-reads
+
+no-call-requires : tie.Need-no-call-requires
+no-call-requires c κs = search needs
+
+returns : tie.Need-returns
+returns c = rw (c .no-call .ensures) (too-long _ _ (c .before .if1 .taken))
+
+word-end-requires : tie.Need-word-end-requires
+word-end-requires c κs = search needs
+
+slice-aggregate-kind-of : tie.Need-slice-aggregate-kind-of
+slice-aggregate-kind-of c = sym (length-take-le _ _ (omega (arith, c .before .word-end .ensures, word-within (c .before .before .before .before .before .args .line .now) 0 (omega arith))))
+
+kind-of-requires : tie.Need-kind-of-requires
+kind-of-requires c κs = search needs
+
+form-of-requires : tie.Need-form-of-requires
+form-of-requires c κs = search needs
+
+read-numbers-requires : tie.Need-read-numbers-requires
+read-numbers-requires c κs = rw (c .before .form-of .ensures) (few-numbers (c .before .before .kind-of .result))
+
+no-call-requires-2 : tie.Need-no-call-requires-2
+no-call-requires-2 c κs = search needs
+
+returns-2 : tie.Need-returns-2
+returns-2 c = 
+    let a = c .before .before .before .before .before .before .before .before .before .before .before .before .args in
+    rw (c .no-call2 .ensures)
+    (bad-numbers (a .frame .now) (a .line .now) (c .before .before .before .before .before .before .before .before .before .if1 .left) _ (c .before .before .before .before .before .before .before .before .word-end .ensures) _ (c .before .before .before .before .before .before .kind-of .ensures) _
+    (c .before .before .before .before .before .form-of .ensures) _ (c .before .before .before .read-numbers .ensures) (not-true _ (c .before .if2 .taken)))
+
+rest-requires : tie.Need-rest-requires
+rest-requires c κs = search needs
+
+same-length : tie.Need-same-length
+same-length c = search needs
+
+returns-3 : tie.Need-returns-3
+returns-3 c = 
+    let a = c .before .before .before .before .before .before .before .before .before .before .before .before .before .before .before .before .args in
+    good-numbers (a .frame .now) (a .line .now) (c .before .before .before .before .before .before .before .before .before .before .before .before .before .if1 .left) _ (c .before .before .before .before .before .before .before .before .before .before .before .before .word-end .ensures) _ (c .before .before .before .before .before .before .before .before .before .before .kind-of .ensures) _
+    (c .before .before .before .before .before .before .before .before .before .form-of .ensures) _ (c .before .before .before .before .before .before .before .read-numbers .ensures) _ _ (not-false _ (c .before .before .before .before .before .if2 .left)) (c .before .before .rest .ensures)
+
+pub call-of-spec : {M : Type 1} → statement M
+call-of-spec =
+    tie.close
+    (tie.spec
+    no-call-requires
+    returns
+    word-end-requires
+    slice-aggregate-kind-of
+    kind-of-requires
+    form-of-requires
+    read-numbers-requires
+    no-call-requires-2
+    returns-2
+    rest-requires
+    same-length
+    returns-3)
