@@ -108,17 +108,22 @@ fn with_card(ends: Ends, card: Card) -> Ends {
     }
 }
 
-// `card`: so many bytes of the large buffer are lent from here on, each a5.
+// Opens the card over a slot buffer whose bytes are all a5 first.
+fn open_over(own: u16, peer: u16, limit: usize, slots: &mut [u8]) -> card::Stepped {
+    buffer::fill(slots, 165);
+    card::open_card(own, peer, limit, slots)
+}
+
+// `card`: so many bytes of the large buffer are lent from here on.
 fn call_card(ends: Ends, numbers: [u32; 5], slots: &mut [u8], out: &mut [u8], at: usize) -> Done {
     let n = numbers[3] as usize;
     if slots.len() < n {
         let used = put_text(out, at, b"?");
         return Done { ends, used };
     }
-    buffer::fill(&mut slots[..n], 165);
     let own = (numbers[0] % 65536) as u16;
     let peer = (numbers[1] % 65536) as u16;
-    let opened = card::open_card(own, peer, numbers[2] as usize, &slots[..n]);
+    let opened = open_over(own, peer, numbers[2] as usize, &mut slots[..n]);
     let card = opened.card;
     let pair = ends.pair;
     let used = put_done(out, at, opened.refusal);
@@ -197,7 +202,7 @@ fn call_show(card: Card, numbers: [u32; 5], slots: &[u8], out: &mut [u8], at: us
 }
 
 // Of a part that is handed out only its bytes can be seen here: it is the lent buffer where that has 10 bytes, as the promise says.
-fn call_choose(card: Card, lent: &[u8], slots: &[u8], out: &mut [u8], at: usize) -> usize {
+fn call_choose<'a>(card: Card, lent: &'a [u8], slots: &'a [u8], out: &mut [u8], at: usize) -> usize {
     let refusal = card::choose_refusal(card, slots, lent);
     if refusal != 0 {
         return put_done(out, at, refusal);
@@ -325,7 +330,7 @@ fn call_state(pair: Pair, out: &mut [u8], at: usize) -> usize {
 }
 
 // Calls that only ask, and lines of no form: no end changes.
-fn ask(ends: Ends, call: Call, frame: &[u8], slots: &[u8], memory: &[u8], out: &mut [u8], at: usize) -> usize {
+fn ask<'a>(ends: Ends, call: Call, frame: &'a [u8], slots: &'a [u8], memory: &[u8], out: &mut [u8], at: usize) -> usize {
     let kind = call.kind;
     let numbers = call.numbers;
     let card = ends.card;
@@ -385,7 +390,11 @@ fn answer_call(
         _ => {
             let s = ends.slots;
             let m = ends.memory;
-            if slots.len() < s || memory.len() < m {
+            if slots.len() < s {
+                let used = put_text(out, at, b"?");
+                return Done { ends, used };
+            }
+            if memory.len() < m {
                 let used = put_text(out, at, b"?");
                 return Done { ends, used };
             }

@@ -1,0 +1,72 @@
+-- `calls::put_slot`: where a slot starts fits in 64 bits.
+-- Assumes nothing.
+use native.Mathlib.Omega.{arith}
+use Prim.Native.Nat.{_%_}
+use Rattle.card.proofs.Limits.{slot-low}
+use borrow.Author.Needs.{needs}
+use Rattle.calls.proofs.put_slot.Statement.{statement}
+use Rattle.calls.proofs.put_slot.Tie as tie
+use Rattle.calls.proofs.put_slot.Reads as reads
+use Rattle.calls.proofs.put_slot.Lts as lts
+use Rattle.reader.proofs.frame_header.Reads as frame-header-reads
+use Rattle.text.proofs.put_bytes.Reads as put-bytes-reads
+use Rattle.text.proofs.put_field.Reads as put-field-reads
+use Rattle.text.proofs.put_word.Reads as put-word-reads
+
+frame-header-requires : tie.Need-frame-header-requires
+frame-header-requires c κs = search needs
+
+cast-place : tie.Need-cast-place
+cast-place c = search needs
+
+mul-place : tie.Need-mul-place
+mul-place c =
+    omega (
+      arith,
+      slot-low (c .before .before .frame-header .result .number .0 % 64) (c .before .before .before .before .before .args .limit)
+          (omega arith) (search needs),
+    )
+
+slice-aggregate-put-field : tie.Need-slice-aggregate-put-field
+slice-aggregate-put-field c = search needs
+
+put-field-requires : tie.Need-put-field-requires
+put-field-requires c κs = search needs
+
+slice-aggregate-put-word : tie.Need-slice-aggregate-put-word
+slice-aggregate-put-word c = search needs
+
+put-word-requires : tie.Need-put-word-requires
+put-word-requires c κs = search needs
+
+put-bytes-requires : tie.Need-put-bytes-requires
+put-bytes-requires c κs = search needs
+
+slice-aggregate-put-word-2 : tie.Need-slice-aggregate-put-word-2
+slice-aggregate-put-word-2 c = search needs
+
+put-word-requires-2 : tie.Need-put-word-requires-2
+put-word-requires-2 c κs = search needs
+
+same-length : tie.Need-same-length
+same-length c = search needs
+
+returns : tie.Need-returns
+returns c = search needs
+
+pub put-slot-spec : {M : Type 1} → statement M
+put-slot-spec =
+    tie.close
+    (tie.spec
+    frame-header-requires
+    cast-place
+    mul-place
+    slice-aggregate-put-field
+    put-field-requires
+    slice-aggregate-put-word
+    put-word-requires
+    put-bytes-requires
+    slice-aggregate-put-word-2
+    put-word-requires-2
+    same-length
+    returns)
