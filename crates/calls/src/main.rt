@@ -202,7 +202,13 @@ fn call_show(card: Card, numbers: [u32; 5], slots: &[u8], out: &mut [u8], at: us
 }
 
 // Of a part that is handed out only its bytes can be seen here: it is the lent buffer where that has 10 bytes, as the promise says.
-fn call_choose<'a>(card: Card, lent: &'a [u8], slots: &'a [u8], out: &mut [u8], at: usize) -> usize {
+fn call_choose<'a>(
+    card: Card,
+    lent: &'a [u8],
+    slots: &'a [u8],
+    out: &mut [u8],
+    at: usize,
+) -> usize {
     let refusal = card::choose_refusal(card, slots, lent);
     if refusal != 0 {
         return put_done(out, at, refusal);
@@ -330,7 +336,15 @@ fn call_state(pair: Pair, out: &mut [u8], at: usize) -> usize {
 }
 
 // Calls that only ask, and lines of no form: no end changes.
-fn ask<'a>(ends: Ends, call: Call, frame: &'a [u8], slots: &'a [u8], memory: &[u8], out: &mut [u8], at: usize) -> usize {
+fn ask<'a>(
+    ends: Ends,
+    call: Call,
+    frame: &'a [u8],
+    slots: &'a [u8],
+    memory: &[u8],
+    out: &mut [u8],
+    at: usize,
+) -> usize {
     let kind = call.kind;
     let numbers = call.numbers;
     let card = ends.card;
@@ -398,7 +412,15 @@ fn answer_call(
                 let used = put_text(out, at, b"?");
                 return Done { ends, used };
             }
-            step(ends, call, front(frame, call.len), &mut slots[..s], &mut memory[..m], out, at)
+            step(
+                ends,
+                call,
+                front(frame, call.len),
+                &mut slots[..s],
+                &mut memory[..m],
+                out,
+                at,
+            )
         }
     }
 }
@@ -547,10 +569,30 @@ fn start() -> State {
     }
 }
 
+// The large buffers. Each promises its length, which lending it as a slice needs.
+fn memory_buffer() -> [u8; 1048576]
+    ensures { λ r. ⌜ 1048576 ≡ length r ⌝ }
+{
+    [0; 1048576]
+}
+
+fn slot_buffer() -> [u8; 600000]
+    ensures { λ r. ⌜ 600000 ≡ length r ⌝ }
+{
+    [0; 600000]
+}
+
+// One character more than a line may have.
+fn line_buffer() -> [u8; 200001]
+    ensures { λ r. ⌜ 200001 ≡ length r ⌝ }
+{
+    [0; 200001]
+}
+
 fn main() {
-    let mut memory = [0u8; 1048576];
-    let mut slots = [0u8; 600000];
-    let mut line = [0u8; 200001];
+    let mut memory = memory_buffer();
+    let mut slots = slot_buffer();
+    let mut line = line_buffer();
     let mut frame = [0u8; 9001];
     let mut piece = io::large_buffer();
     let mut out = io::large_buffer();
@@ -563,5 +605,12 @@ fn main() {
         &mut memory,
         &mut out,
     );
-    finish(end, &mut line, &mut frame, &mut slots, &mut memory, &mut out);
+    finish(
+        end,
+        &mut line,
+        &mut frame,
+        &mut slots,
+        &mut memory,
+        &mut out,
+    );
 }

@@ -397,7 +397,14 @@ fn no_call() -> Call
 }
 
 // Behind the numbers: nothing more, or a space and bytes to the line's end.
-fn rest(kind: Kind, numbers: [u32; 5], line: &[u8], at: usize, takes: bool, frame: &mut [u8]) -> Call
+fn rest(
+    kind: Kind,
+    numbers: [u32; 5],
+    line: &[u8],
+    at: usize,
+    takes: bool,
+    frame: &mut [u8],
+) -> Call
     ensures { λ r. ⌜ r ≡ callRest (length (now (frame .entry))) kind numbers takes (drop at (now (line .entry))) ⌝ }
     ensures { λ _. ⌜ now (frame .exit) ≡ frameRest (now (frame .entry)) takes (drop at (now (line .entry))) ⌝ }
 {

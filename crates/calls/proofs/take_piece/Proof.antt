@@ -47,7 +47,7 @@ loop-less : tie.Need-loop-less Inv-loop μ-loop
 loop-less c = omega (arith, further _ _ _ _ _ (c .before .before .before .before .before .before .before .before .before .before .before .before .before .before .before .before .before .before .before .gather .ensures .0) (c .before .before .before .before .before .before .before .before .before .before .before .before .before .before .before .before .before .before .before .before .before .loop-test .taken), c .before .before .before .before .before .before .before .before .before .before .before .before .before .before .before .before .before .before .before .before .before .loop-test .taken)
 
 loop-again : tie.Need-loop-again Inv-loop μ-loop
-loop-again c = 
+loop-again c =
     let k = c .before .before .before .before .before .before .before .before .before .before .before .before .before .before .before .before .before .before .before .before .before .before .loop .inv in
     let e = c .before .before .before .before .before .before .before .before .before .answer-line .kept in
     (c .before .before .before .before .before .before .before .before .before .before .before .before .before .before .before .before .before .before .before .gather .kept .1 .0 ∙ k .0, e .1 .1 .0 ∙ k .1, e .1 .1 .1 .0 ∙ k .2, e .1 .1 .1 .1 .0 ∙ k .3, e .1 .1 .1 .1 .1 .0 ∙ k .4)
@@ -56,7 +56,7 @@ loop-less-2 : tie.Need-loop-less-2 Inv-loop μ-loop
 loop-less-2 c = omega (arith, further _ _ _ _ _ (c .before .before .before .gather .ensures .0) (c .before .before .before .before .before .loop-test .taken), c .before .before .before .before .before .loop-test .taken)
 
 loop-again-2 : tie.Need-loop-again-2 Inv-loop μ-loop
-loop-again-2 c = 
+loop-again-2 c =
     let k = c .before .before .before .before .before .before .loop .inv in
     (c .before .before .before .gather .kept .1 .0 ∙ k .0, k .1, k .2, k .3, k .4)
 

@@ -10,7 +10,7 @@ use Rattle.pair_text.proofs.put_place.Lts as lts
 use Rattle.pair_text.proofs.put_open.Reads as put-open-reads
 
 returns : tie.Need-returns
-returns c = 
+returns c =
     let a = c .before .before .before .args in
     place-free (from (a .out .now) (a .at)) (a .number) (a .o) (c .if1 .taken)
 
@@ -21,7 +21,7 @@ same-length : tie.Need-same-length
 same-length c = search needs
 
 returns-2 : tie.Need-returns-2
-returns-2 c = 
+returns-2 c =
     let a = c .before .before .before .before .before .before .before .args in
     place-open (from (a .out .now) (a .at)) (a .number) (a .o) (c .before .before .before .before .if1 .left) (c .before .before .put-open .ensures)
 

@@ -13,12 +13,12 @@ use Rattle.hexline.proofs.take_in.Reads as take-in-reads
 use Rattle.script.proofs.is_same.Reads as is-same-reads
 
 returns : tie.Need-returns
-returns c = 
+returns c =
     let a = c .before .before .before .args in
     no-room (a .frame .now) (a .word .now) (c .if1 .taken)
 
 returns-2 : tie.Need-returns-2
-returns-2 c = 
+returns-2 c =
     let a = c .before .before .before .before .args in
     no-bytes (a .frame .now) (a .word .now) (c .before .if1 .left) (c .if2 .taken)
 
@@ -29,7 +29,7 @@ is-same-requires : tie.Need-is-same-requires
 is-same-requires c κs = search needs
 
 returns-3 : tie.Need-returns-3
-returns-3 c = 
+returns-3 c =
     let a = c .before .before .before .before .before .before .before .args in
     dash (a .frame .now) (a .word .now) (c .before .before .before .before .if1 .left) (c .before .before .before .if2 .left) (sym (c .before .is-same .ensures) ∙ c .if3 .taken)
 

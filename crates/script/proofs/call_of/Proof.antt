@@ -43,7 +43,7 @@ no-call-requires-2 : tie.Need-no-call-requires-2
 no-call-requires-2 c κs = search needs
 
 returns-2 : tie.Need-returns-2
-returns-2 c = 
+returns-2 c =
     let a = c .before .before .before .before .before .before .before .before .before .before .before .before .args in
     rw (c .no-call2 .ensures)
     (bad-numbers (a .frame .now) (a .line .now) (c .before .before .before .before .before .before .before .before .before .if1 .left) _ (c .before .before .before .before .before .before .before .before .word-end .ensures) _ (c .before .before .before .before .before .before .kind-of .ensures) _
@@ -56,7 +56,7 @@ same-length : tie.Need-same-length
 same-length c = search needs
 
 returns-3 : tie.Need-returns-3
-returns-3 c = 
+returns-3 c =
     let a = c .before .before .before .before .before .before .before .before .before .before .before .before .before .before .before .before .args in
     good-numbers (a .frame .now) (a .line .now) (c .before .before .before .before .before .before .before .before .before .before .before .before .before .if1 .left) _ (c .before .before .before .before .before .before .before .before .before .before .before .before .word-end .ensures) _ (c .before .before .before .before .before .before .before .before .before .before .kind-of .ensures) _
     (c .before .before .before .before .before .before .before .before .before .form-of .ensures) _ (c .before .before .before .before .before .before .before .read-numbers .ensures) _ _ (not-false _ (c .before .before .before .before .before .if2 .left)) (c .before .before .rest .ensures)

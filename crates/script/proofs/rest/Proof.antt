@@ -14,12 +14,12 @@ no-call-requires : tie.Need-no-call-requires
 no-call-requires c κs = search needs
 
 returns : tie.Need-returns
-returns c = 
+returns c =
     rw (c .no-call .ensures)
     (rest-over _ _ _ _ _ _ (not-true _ (c .before .before .if1 .taken)) (c .before .if2 .taken))
 
 returns-2 : tie.Need-returns-2
-returns-2 c = 
+returns-2 c =
     let a = c .before .before .before .before .args in
     rest-none (a .frame .now) (a .line .now) (a .at) (a .kind) (a .numbers) (a .takes) (not-true _ (c .before .if1 .taken)) (c .if2 .left)
 
@@ -27,7 +27,7 @@ no-call-requires-2 : tie.Need-no-call-requires-2
 no-call-requires-2 c κs = search needs
 
 returns-3 : tie.Need-returns-3
-returns-3 c = 
+returns-3 c =
     rw (c .no-call2 .ensures)
     (rest-missing _ _ _ _ _ _ (not-false _ (c .before .before .if1 .left)) (c .before .if3 .taken))
 
@@ -62,7 +62,7 @@ same-length-2 : tie.Need-same-length-2
 same-length-2 c = search needs
 
 returns-5 : tie.Need-returns-5
-returns-5 c = 
+returns-5 c =
     let a = c .before .before .before .before .before .before .before .before .before .before .before .args in
     rest-bytes (a .frame .now) (a .line .now) (a .at) (a .kind) (a .numbers) (a .takes) (not-false _ (c .before .before .before .before .before .before .before .before .if1 .left)) (c .before .before .before .before .before .before .before .if3 .left) _ _ (c .before .before .before .before .bytes-in .ensures .0) (c .before .before .before .before .bytes-in .ensures .1) (not-false _ (c .if4 .left))
 

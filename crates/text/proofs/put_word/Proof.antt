@@ -13,7 +13,7 @@ write-requires : tie.Need-write-requires
 write-requires c κs = search needs
 
 add-result : tie.Need-add-result
-add-result c = 
+add-result c =
     let s = c .before .before .before .before .before .before .before .args in
     let w = c .before .before .before .write in
     omega (arith, piece-fits (s .out .now) _ (s .word .now) (s .at) _ (w .ensures .0) (w .ensures .1) (c .if1 .taken))
@@ -22,7 +22,7 @@ same-length : tie.Need-same-length
 same-length c = search needs
 
 returns : tie.Need-returns
-returns c = 
+returns c =
     let s = c .before .before .before .before .before .before .before .args in
     let w = c .before .before .before .write in
     piece-put (s .out .now) _ (s .word .now) (s .at) _ (w .ensures .0) (w .ensures .1) (c .if1 .taken)
@@ -31,7 +31,7 @@ same-length-2 : tie.Need-same-length-2
 same-length-2 c = search needs
 
 returns-2 : tie.Need-returns-2
-returns-2 c = 
+returns-2 c =
     let s = c .before .before .before .before .before .before .before .args in
     let w = c .before .before .before .write in
     piece-left (s .out .now) _ (s .word .now) (s .at) _ (w .ensures .0) (w .ensures .1) (c .if1 .left)
