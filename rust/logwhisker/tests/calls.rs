@@ -1,0 +1,184 @@
+//! Runs the proved program `calls` on scripts and compares every answer with the
+//! independent one: both ends' answers, the frames handed out with their place in the
+//! slots, and digests of slots and memory. `LW_SEED` and `LW_SCRIPTS` choose the first
+//! seed and the number of scripts of each kind, `LW_CALLS` another program.
+
+use reference::calls;
+use reference::demand::Care;
+use reference::ends::{Sound, Start};
+use reference::faults::{Fault, Faulty, FoundBy};
+use reference::rng::Rng;
+use reference::script::{Wild, of_list};
+use reference::simulator::{Profile, come_round, simulate};
+use std::env;
+use std::io::{Read, Write};
+use std::path::{Path, PathBuf};
+use std::process::{Command, Stdio};
+use std::thread;
+
+const STDIN: &[u8] = include_bytes!("../../reference/tests/data/calls/stdin");
+const STDOUT: &str = include_str!("../../reference/tests/data/calls/stdout");
+const WILD_LINES: usize = 8_000;
+const LIST_CALLS: usize = 600;
+const LONG_CALLS: usize = 400_000;
+/// The longest line that is read.
+const LONGEST: usize = 200_000;
+
+fn number_from_env(name: &str, default: u64) -> u64 {
+    match env::var(name) {
+        Err(env::VarError::NotPresent) => default,
+        Ok(text) => text
+            .parse()
+            .unwrap_or_else(|_| panic!("{name} is {text:?}, which is not a decimal number")),
+        Err(error) => panic!("{name}: {error}"),
+    }
+}
+
+fn seeds() -> std::ops::Range<u64> {
+    let first = number_from_env("LW_SEED", 1);
+    first..first + number_from_env("LW_SCRIPTS", 24)
+}
+
+fn program() -> PathBuf {
+    if let Some(path) = env::var_os("LW_CALLS") {
+        return path.into();
+    }
+    let path = Path::new(env!("CARGO_MANIFEST_DIR")).join("../../target/bin/calls");
+    assert!(
+        path.is_file(),
+        "{} is absent. Make it with `rt check calls` in the root of the repository, then run this again.",
+        path.display()
+    );
+    path
+}
+
+/// What the program writes for this input, handed to it in pieces of this size.
+fn output_in_pieces(input: &[u8], piece: usize) -> String {
+    let path = program();
+    let mut child = Command::new(&path)
+        .stdin(Stdio::piped())
+        .stdout(Stdio::piped())
+        .spawn()
+        .unwrap_or_else(|error| panic!("{}: {error}", path.display()));
+    let mut stdin = child.stdin.take().expect("it is piped");
+    let mut stdout = child.stdout.take().expect("it is piped");
+    let mut output = Vec::new();
+    thread::scope(|scope| {
+        let writer = scope.spawn(move || input.chunks(piece).try_for_each(|p| stdin.write_all(p)));
+        stdout.read_to_end(&mut output).expect("a pipe can be read");
+        let written = writer.join().expect("the writer does not panic");
+        written.expect("the program reads all");
+    });
+    let status = child.wait().expect("a child can be waited for");
+    assert!(status.success(), "the program ended with {status}");
+    String::from_utf8(output).expect("the program writes plain letters and digits")
+}
+
+fn output_of(input: &[u8]) -> String {
+    output_in_pieces(input, 1 << 16)
+}
+
+/// Compares the program with the independent one, and gives what both wrote.
+fn assert_same(input: &[u8]) -> String {
+    let got = output_of(input);
+    let expected = calls::output(Sound, input);
+    if got != expected {
+        let mut answers = got.lines().zip(expected.lines());
+        let index = answers.position(|(a, b)| a != b);
+        let index = index.unwrap_or(got.lines().count().min(expected.lines().count()));
+        let line = input.split(|byte| *byte == b'\n').nth(index);
+        panic!(
+            "line {index} is answered {:?} instead of {:?}: {}",
+            got.lines().nth(index),
+            expected.lines().nth(index),
+            line.unwrap_or(b"").escape_ascii()
+        );
+    }
+    got
+}
+
+fn wild(seed: u64) -> Vec<u8> {
+    Wild::new(seed).text(WILD_LINES)
+}
+
+/// A list of demand 3 from fresh ends, with digests of slots and memory in between.
+fn list(seed: u64) -> Vec<u8> {
+    let profile = Profile {
+        start: Start::default(),
+        ..Profile::any(&mut Rng::new(seed))
+    };
+    let run = simulate(&Sound, seed, profile, LIST_CALLS, true, Care::LongList);
+    of_list(&run.setting, &run.calls, 5).into_bytes()
+}
+
+/// One in which a transaction stays in the window while all frame numbers come round.
+fn round() -> Vec<u8> {
+    let (setting, calls) = come_round();
+    of_list(&setting, &calls, 1_000).into_bytes()
+}
+
+#[test]
+fn stored_script() {
+    assert_eq!(output_of(STDIN), STDOUT);
+}
+
+#[test]
+fn lines_of_any_kind() {
+    for seed in seeds() {
+        assert_same(&wild(seed));
+    }
+}
+
+#[test]
+fn lists_of_demand_3() {
+    for seed in seeds() {
+        assert_same(&list(seed));
+    }
+}
+
+#[test]
+fn numbers_that_come_round() {
+    let answers = assert_same(&round());
+    let last = |number: u32| answers.lines().any(|line| line == format!("f {number}"));
+    assert!(last(65_535) && last(0));
+    let seed = number_from_env("LW_SEED", 1);
+    let run = simulate(&Sound, seed, Profile::long(66_000), LONG_CALLS, true, Care::LongList);
+    let answers = assert_same(of_list(&run.setting, &run.calls, 1_000).as_bytes());
+    assert!(answers.lines().any(|line| line == "f 65535"));
+}
+
+#[test]
+fn endings_and_long_lines() {
+    for input in [&b""[..], b"\n", b"seal", b"seal\n", b"seal\r\n", b"\0\n\xff", b"\n\nseal\n\n", b"class 5"] {
+        assert_same(input);
+    }
+    for digits in [LONGEST - 8, LONGEST - 7, LONGEST - 6, LONGEST + 1, 3 * LONGEST] {
+        let mut input = b"layout ".to_vec();
+        input.resize(7 + digits, b'0');
+        assert_same(&input);
+        input.extend_from_slice(b"\nclass 5\n");
+        assert_same(&input);
+    }
+}
+
+#[test]
+fn byte_by_byte() {
+    let script = &STDIN[..STDIN.len().min(4_000)];
+    assert_eq!(output_in_pieces(script, 1), calls::output(Sound, script));
+}
+
+/// What demand 3 lets pass is told apart by the answers.
+#[test]
+fn faults_that_demand_3_lets_pass_show_in_the_answers() {
+    let scripts: Vec<Vec<u8>> = (0..4).map(wild).chain((0..60).map(list)).chain([round()]).collect();
+    let answers: Vec<String> = scripts.iter().map(|script| output_of(script)).collect();
+    let passing = Fault::ALL.iter().filter(|fault| fault.found_by() == FoundBy::Comparison);
+    let mut tried = 0;
+    for fault in passing {
+        let ends = || Faulty(Some(*fault));
+        let mut pairs = scripts.iter().zip(&answers);
+        assert!(pairs.any(|(script, answer)| calls::output(ends(), script) != *answer), "{fault:?}");
+        tried += 1;
+    }
+    assert!(tried > 5);
+}
