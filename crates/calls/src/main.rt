@@ -54,7 +54,7 @@ fn put_text(out: &mut [u8], at: usize, word: &[u8]) -> usize {
 // A line of a letter and a number.
 fn put_numbered(out: &mut [u8], at: usize, letter: u8, n: u64) -> usize {
     let numbers = [n];
-    hexline::put_line(out, at, letter, &numbers)
+    answer_line::put_line(out, at, letter, &numbers)
 }
 
 // `ok`, or the refusal.
@@ -314,7 +314,7 @@ fn call_layout(frame: &[u8], out: &mut [u8], at: usize) -> usize {
                 messages as u64,
                 bytes as u64,
             ];
-            hexline::put_line(out, at, b'L', &numbers)
+            answer_line::put_line(out, at, b'L', &numbers)
         }
     }
 }
@@ -478,7 +478,7 @@ fn take_piece(
     let mut used = at_start.used;
     let mut at = 0;
     while at < piece.len() {
-        let taken = script::gather(len, line, piece, at);
+        let taken = words::gather(len, line, piece, at);
         at = taken.at;
         len = taken.len;
         if taken.ended {

@@ -1,4 +1,3 @@
 pub mod Digits
 pub mod Taking
 pub mod Decoding
-pub mod Text

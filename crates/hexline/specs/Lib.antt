@@ -1,4 +1,3 @@
 pub mod Line
 pub mod Taking
 pub mod Walking
-pub mod Text

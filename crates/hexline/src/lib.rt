@@ -1,10 +1,8 @@
-// The replay program's lines: characters of hexadecimal taken in, piece by piece, into a lent frame, and answer lines
-// put into a lent buffer, with numbers in decimal. Any characters and any lengths get an answer.
+// Lines of hexadecimal: characters taken in, piece by piece, into a lent frame. Assumes nothing: any characters and any lengths
+// get an answer. It promises what specs/Taking.antt says of the line so far and of every byte of the frame.
 ghost use mathlib.Core.Path.{_≡_};
-ghost use mathlib.Core.List.{_∷_};
 ghost use Prim.Native.Nat.{_+_, _-_, _*_, _≤_, min};
-ghost use lib.ListN.{length, take, drop, set};
-ghost use lib.Seq.{sets};
+ghost use lib.ListN.{drop};
 ghost use Rattle.hexline.specs.Line.{digit};
 ghost use Rattle.hexline.specs.Taking.{
   start,
@@ -16,7 +14,6 @@ ghost use Rattle.hexline.specs.Taking.{
   emptyLine,
 };
 ghost use Rattle.hexline.specs.Walking.{digitValues, stateOf, Walked};
-ghost use Rattle.hexline.specs.Text.{decimal, lineText, withLine, lineEnd};
 
 // Bytes of a line that are kept: one more than a frame can have, so that a longer line still reads as too long.
 const KEPT: usize = 9001;
@@ -105,15 +102,6 @@ fn value_in(values: &[u8; 256], c: u8) -> u8
     ensures { λ r. ⌜ r ≡ valueOr16 (digit c) ⌝ }
 {
     values[c as usize]
-}
-
-// Stores a byte, and nothing past the end.
-fn keep(frame: &mut [u8], at: usize, b: u8)
-    ensures { λ _. ⌜ now (frame .exit) ≡ set (now (frame .entry)) at b ⌝ }
-{
-    if at < frame.len() {
-        frame[at] = b;
-    }
 }
 
 // What take_in answers, made from the numbers that its loop works on.
@@ -223,56 +211,8 @@ pub fn take_in(line: Line, frame: &mut [u8], piece: &[u8], from: usize) -> Taken
         if KEPT <= len {
             continue;
         }
-        keep(frame, len, half % 16 * 16 + d);
+        octets::keep(frame, len, half % 16 * 16 + d);
         len += 1;
     }
     answer(len, half, odd, bad, at, false)
-}
-
-// Puts a space and a number's digits into text from at on, and answers the index behind.
-fn put_number(text: &mut [u8], at: usize, x: u64) -> usize
-    requires { ⌜ at + 21 ≤ length (now text) ⌝ }
-    ensures { λ r. ⌜ (r ≡ at + length (32 ∷ decimal x)) × (r ≤ at + 21) ⌝ }
-    ensures { λ _. ⌜ now (text .exit) ≡ sets (now (text .entry)) at (32 ∷ decimal x) ⌝ }
-{
-    let mut digits = [0u8; 20];
-    let n = io::decimal(x, &mut digits);
-    text[at] = 32;
-    octets::write(text, at + 1, &digits[..n]);
-    at + 1 + n
-}
-
-// Puts the text of a line at the start of text, and answers its length.
-fn put_text(text: &mut [u8], letter: u8, numbers: &[u64]) -> usize
-    requires { ⌜ (length (now text) ≡ 170) × (length (now numbers) ≤ 8) ⌝ }
-    ensures { λ r. ⌜ (r ≤ 170) × (r ≡ length (lineText letter (now (numbers .entry)))) ⌝ }
-    ensures { λ r. ⌜ take r (now (text .exit)) ≡ lineText letter (now (numbers .entry)) ⌝ }
-{
-    text[0] = letter;
-    let mut n = 1;
-    let mut i = 0;
-    while i < numbers.len() {
-        n = put_number(text, n, numbers[i]);
-        i += 1;
-    }
-    text[n] = 10;
-    n + 1
-}
-
-// Writes an answer line into out from at on, and answers the index behind it. Where it does not fit, or has more than 8
-// numbers, nothing is written and the answer is at.
-pub fn put_line(out: &mut [u8], at: usize, letter: u8, numbers: &[u64]) -> usize
-    ensures { λ r. ⌜ r ≡ lineEnd (now (out .entry)) at letter (now (numbers .entry)) ⌝ }
-    ensures { λ _. ⌜ now (out .exit) ≡ withLine (now (out .entry)) at letter (now (numbers .entry)) ⌝ }
-{
-    if 8 < numbers.len() {
-        return at;
-    }
-    // a letter, 8 numbers of a space and 20 digits each, and a newline
-    let mut text = [0u8; 170];
-    let n = put_text(&mut text, letter, numbers);
-    if octets::write(out, at, &text[..n]) {
-        return at + n;
-    }
-    at
 }

@@ -1,7 +1,8 @@
-// Writing bytes into a memory that the caller lends: all of them where they lie inside it, else none.
+// Writing bytes into a memory that the caller lends: all of them where they lie inside it, else none. Assumes nothing. It promises
+// the whole memory as it is then (specs/Octets.antt).
 ghost use mathlib.Core.Path.{_≡_};
 ghost use Prim.Native.Nat.{_≤_};
-ghost use lib.ListN.{length};
+ghost use lib.ListN.{length, set};
 ghost use Rattle.octets.specs.Octets.{little, inside, written};
 
 // Most bytes that a frame can carry: what a copy through a local array has room for.
@@ -45,6 +46,15 @@ fn copy_held(dst: &mut [u8], src: &[u8])
     let mut held = [0u8; 9000];
     let n = bytes::copy(src, &mut held);
     bytes::copy(&held[..n], dst);
+}
+
+// Stores a byte, and nothing past the end.
+pub fn keep(memory: &mut [u8], at: usize, b: u8)
+    ensures { λ _. ⌜ now (memory .exit) ≡ set (now (memory .entry)) at b ⌝ }
+{
+    if at < memory.len() {
+        memory[at] = b;
+    }
 }
 
 // A number as its four bytes, the lowest first.

@@ -139,7 +139,7 @@ fn finish(at_end: Replay, frame: &mut [u8], memory: &mut [u8], out: &mut [u8]) {
     let t = state.totals;
     let numbers = [t.messages, t.bytes, t.completed];
     let at = make_room(out, state.used);
-    let used = hexline::put_line(out, at, b'T', &numbers);
+    let used = answer_line::put_line(out, at, b'T', &numbers);
     write_out(out, used);
 }
 

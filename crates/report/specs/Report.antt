@@ -5,7 +5,7 @@ use mathlib.Core.List.{List, [], _∷_}
 use lib.ListN.{take}
 use Rattle.hexline.specs.declared.Line.{Line}
 use Rattle.hexline.specs.Taking.{refusedLine}
-use Rattle.hexline.specs.Text.{lineEnd, withLine}
+use Rattle.answer_line.specs.AnswerLine.{lineEnd, withLine}
 use Rattle.host.specs.declared.Pair.{Pair}
 use Rattle.host.specs.declared.Answer.{Answer}
 use Rattle.host.specs.declared.Answer.the-variants.{Accepted, Again, NoMessages, Refused}

@@ -7,7 +7,7 @@ use host::Stepped;
 ghost use mathlib.Core.Path.{_≡_};
 ghost use mathlib.Core.List.{[], _∷_};
 ghost use lib.ListN.{take};
-ghost use Rattle.hexline.specs.Text.{lineEnd, withLine};
+ghost use Rattle.answer_line.specs.AnswerLine.{lineEnd, withLine};
 ghost use Rattle.host.specs.Host.{steppedOf};
 ghost use Rattle.report.specs.Report.{answeredLine, letterOf, numbersOf, totalled};
 
@@ -58,19 +58,19 @@ pub fn put_answer(out: &mut [u8], at: usize, answer: Answer) -> usize
                 s.bytes as u64,
                 s.completed as u64,
             ];
-            hexline::put_line(out, at, b'A', &numbers)
+            answer_line::put_line(out, at, b'A', &numbers)
         }
         Answer::Again(n) => {
             let numbers = [n.0 as u64];
-            hexline::put_line(out, at, b'G', &numbers)
+            answer_line::put_line(out, at, b'G', &numbers)
         }
         Answer::NoMessages => {
             let numbers = [0u64; 0];
-            hexline::put_line(out, at, b'N', &numbers)
+            answer_line::put_line(out, at, b'N', &numbers)
         }
         Answer::Refused(r) => {
             let numbers = [r.number as u64];
-            hexline::put_line(out, at, b'R', &numbers)
+            answer_line::put_line(out, at, b'R', &numbers)
         }
     }
 }

@@ -29,11 +29,11 @@ use Rattle.script.specs.declared.Kind.the-variants.{
   State,
   Other,
 }
-use Rattle.script.specs.declared.Number.{Number}
-use Rattle.script.specs.declared.Bytes.{Bytes}
+use Rattle.words.specs.declared.Number.{Number}
+use Rattle.words.specs.declared.Bytes.{Bytes}
 use Rattle.script.specs.declared.Call.{Call}
 use Rattle.script.specs.declared.Form.{Form}
-use Rattle.script.specs.Words.{wordLength, wordEnd, numberIn, spelled, bytesOf, frameOf}
+use Rattle.words.specs.Words.{wordLength, wordEnd, numberIn, spelled, bytesOf, frameOf}
 use Rattle.script.specs.Calls.{
   kindOf,
   formOf,

@@ -1,3 +1,1 @@
-pub mod Gathering
-pub mod Wording
 pub mod Calling

@@ -5,7 +5,7 @@ use mathlib.Core.Bool.{Bool, true, false, cond}
 use mathlib.Core.List.{List, [], _∷_}
 use lib.Dec.{ltb}
 use lib.ListN.{length, take, drop, set}
-use Rattle.script.specs.Words.{wordLength, sameText, numberIn, spelled, bytesOf, frameOf}
+use Rattle.words.specs.Words.{wordLength, sameText, numberIn, spelled, bytesOf, frameOf}
 use Rattle.script.specs.declared.Kind.{Kind}
 use Rattle.script.specs.declared.Kind.the-variants.{
   Card,

@@ -1,14 +1,10 @@
-// Lines of a script: characters gathered to a line, its words, and the call that it asks for, with its numbers and bytes. Any
-// characters get an answer.
-use hexline::Line;
+// The call that a line of a script asks for: its name, its numbers, each within its bound, and its bytes. Assumes nothing: a line
+// of no form is a call of its own kind, Other. It promises what specs/Calls.antt says, and every byte of the frame lent.
 ghost use mathlib.Core.Path.{_≡_};
 ghost use mathlib.Core.Bool.{true, false};
 ghost use mathlib.Core.List.{[], _∷_};
 ghost use Prim.Native.Nat.{_≤_};
-ghost use lib.ListN.{length, take, drop, set};
-ghost use Rattle.script.specs.Lines.{kept, keepAll, gatheredFrom};
-ghost use Rattle.hexline.specs.Line.{upToNewline};
-ghost use Rattle.script.specs.Words.{wordEnd, sameText, numberIn, spelled, bytesOf, frameOf};
+ghost use lib.ListN.{length, take, drop};
 ghost use Rattle.script.specs.Calls.{
   questionKind,
   frameKind,
@@ -22,197 +18,8 @@ ghost use Rattle.script.specs.Calls.{
   callFrame,
 };
 
-// Characters of a line that are kept: one more than a line may have, so that a longer one still reads as too long.
-const KEPT: usize = 200001;
-
 // Characters of a line at most.
 const LINE_MOST: usize = 200000;
-
-// Room that bytes need: one more than a frame can have, so that more of them still read as too many.
-const BYTES_KEPT: usize = 9001;
-
-// ---- a line
-
-// What a piece of the input gave: how many characters of the line are kept, the index behind what was taken, and whether the line
-// has ended.
-pub struct Gathered {
-    pub len: usize,
-    pub at: usize,
-    pub ended: bool,
-}
-
-// Stores a character, and nothing past the end.
-fn keep(line: &mut [u8], at: usize, c: u8)
-    ensures { λ _. ⌜ now (line .exit) ≡ set (now (line .entry)) at c ⌝ }
-{
-    if at < line.len() {
-        line[at] = c;
-    }
-}
-
-// Takes in the characters of piece from an index on, up to the end of the line, newline included, or of the piece.
-pub fn gather(len: usize, line: &mut [u8], piece: &[u8], from: usize) -> Gathered
-    ensures { λ r. ⌜ r ≡ gatheredFrom len (now (line .entry)) from (drop from (now (piece .entry))) ⌝ }
-    ensures { λ _. ⌜ now (line .exit) ≡ keepAll (kept len (now (line .entry))) (upToNewline (drop from (now (piece .entry)))) .line ⌝ }
-{
-    let mut kept = len;
-    let mut at = from;
-    while at < piece.len() {
-        let c = piece[at];
-        at += 1;
-        if c == 10 {
-            return Gathered {
-                len: kept,
-                at,
-                ended: true,
-            };
-        }
-        if KEPT <= kept {
-            continue;
-        }
-        keep(line, kept, c);
-        kept += 1;
-    }
-    Gathered {
-        len: kept,
-        at,
-        ended: false,
-    }
-}
-
-// ---- words
-
-// A number, where it is good.
-pub struct Number {
-    pub value: u32,
-    pub good: bool,
-}
-
-// How many bytes a word spells, where it is good.
-pub struct Bytes {
-    pub len: usize,
-    pub good: bool,
-}
-
-// The index behind the word that starts at an index: that of the next space, or of the line's end.
-pub fn word_end(line: &[u8], from: usize) -> usize
-    ensures { λ r. ⌜ r ≡ wordEnd (now (line .entry)) from ⌝ }
-{
-    let mut at = from;
-    while at < line.len() {
-        if line[at] == 32 {
-            return at;
-        }
-        at += 1;
-    }
-    at
-}
-
-// Whether two texts are the same.
-pub fn is_same(a: &[u8], b: &[u8]) -> bool
-    ensures { λ r. ⌜ r ≡ sameText (now (a .entry)) (now (b .entry)) ⌝ }
-{
-    if a.len() != b.len() {
-        return false;
-    }
-    let mut i = 0;
-    while i < a.len() {
-        if a[i] != b[i] {
-            return false;
-        }
-        i += 1;
-    }
-    true
-}
-
-fn wide(b: u8) -> u64
-    ensures { λ r. ⌜ (r ≡ b) × (r ≤ 255) ⌝ }
-{
-    b as u64
-}
-
-// The number that a word says in decimal, up to a bound.
-pub fn decimal_in(word: &[u8], most: u32) -> Number
-    ensures { λ r. ⌜ r ≡ numberIn most (now (word .entry)) ⌝ }
-{
-    if word.len() == 0 {
-        return Number {
-            value: 0,
-            good: false,
-        };
-    }
-    let mut value: u64 = 0;
-    let mut i = 0;
-    while i < word.len() {
-        let c = wide(word[i]);
-        if c < 48 {
-            return Number {
-                value: 0,
-                good: false,
-            };
-        }
-        if 57 < c {
-            return Number {
-                value: 0,
-                good: false,
-            };
-        }
-        value = value * 10 + (c - 48);
-        if (most as u64) < value {
-            return Number {
-                value: 0,
-                good: false,
-            };
-        }
-        i += 1;
-    }
-    Number {
-        value: value as u32,
-        good: true,
-    }
-}
-
-// The bytes that a word says in hexadecimal, put at the start of frame.
-pub fn bytes_in(word: &[u8], frame: &mut [u8]) -> Bytes
-    ensures { λ r. ⌜ r ≡ bytesOf (spelled (length (now (frame .entry))) (now (word .entry))) ⌝ }
-    ensures { λ _. ⌜ now (frame .exit) ≡ frameOf (now (frame .entry)) (now (word .entry)) ⌝ }
-{
-    if frame.len() < BYTES_KEPT {
-        return Bytes {
-            len: 0,
-            good: false,
-        };
-    }
-    if word.len() == 0 {
-        return Bytes {
-            len: 0,
-            good: false,
-        };
-    }
-    if is_same(word, b"-") {
-        return Bytes { len: 0, good: true };
-    }
-    let taken = hexline::take_in(Line::start(), frame, word, 0);
-    let line = taken.line;
-    if taken.ended {
-        return Bytes {
-            len: 0,
-            good: false,
-        };
-    }
-    if line.is_refused() {
-        return Bytes {
-            len: 0,
-            good: false,
-        };
-    }
-    Bytes {
-        len: line.len,
-        good: true,
-    }
-}
-
-// ---- calls
 
 // The calls by name. Other is a line of no form.
 pub enum Kind {
@@ -258,16 +65,16 @@ struct Numbers {
 fn question_kind(word: &[u8]) -> Kind
     ensures { λ r. ⌜ r ≡ questionKind (now (word .entry)) ⌝ }
 {
-    if is_same(word, b"class") {
+    if words::is_same(word, b"class") {
         return Kind::Class;
     }
-    if is_same(word, b"slots") {
+    if words::is_same(word, b"slots") {
         return Kind::Slots;
     }
-    if is_same(word, b"memory") {
+    if words::is_same(word, b"memory") {
         return Kind::Memory;
     }
-    if is_same(word, b"state") {
+    if words::is_same(word, b"state") {
         return Kind::State;
     }
     Kind::Other
@@ -277,19 +84,19 @@ fn question_kind(word: &[u8]) -> Kind
 fn frame_kind(word: &[u8]) -> Kind
     ensures { λ r. ⌜ r ≡ frameKind (now (word .entry)) ⌝ }
 {
-    if is_same(word, b"read") {
+    if words::is_same(word, b"read") {
         return Kind::Read;
     }
-    if is_same(word, b"show") {
+    if words::is_same(word, b"show") {
         return Kind::Show;
     }
-    if is_same(word, b"choose") {
+    if words::is_same(word, b"choose") {
         return Kind::Choose;
     }
-    if is_same(word, b"receive") {
+    if words::is_same(word, b"receive") {
         return Kind::Receive;
     }
-    if is_same(word, b"layout") {
+    if words::is_same(word, b"layout") {
         return Kind::Layout;
     }
     question_kind(word)
@@ -299,19 +106,19 @@ fn frame_kind(word: &[u8]) -> Kind
 pub fn kind_of(word: &[u8]) -> Kind
     ensures { λ r. ⌜ r ≡ kindOf (now (word .entry)) ⌝ }
 {
-    if is_same(word, b"card") {
+    if words::is_same(word, b"card") {
         return Kind::Card;
     }
-    if is_same(word, b"host") {
+    if words::is_same(word, b"host") {
         return Kind::Host;
     }
-    if is_same(word, b"open") {
+    if words::is_same(word, b"open") {
         return Kind::Open;
     }
-    if is_same(word, b"add") {
+    if words::is_same(word, b"add") {
         return Kind::Add;
     }
-    if is_same(word, b"seal") {
+    if words::is_same(word, b"seal") {
         return Kind::Seal;
     }
     frame_kind(word)
@@ -370,8 +177,8 @@ fn read_numbers(line: &[u8], from: usize, count: usize, most: [u32; 5]) -> Numbe
             return no_numbers(line.len());
         }
         let start = at + 1;
-        let end = word_end(line, start);
-        let n = decimal_in(&line[start..end], most[i]);
+        let end = words::word_end(line, start);
+        let n = words::decimal_in(&line[start..end], most[i]);
         if !n.good {
             return no_numbers(line.len());
         }
@@ -422,7 +229,7 @@ fn rest(
         return no_call();
     }
     let start = at + 1;
-    let b = bytes_in(&line[start..], frame);
+    let b = words::bytes_in(&line[start..], frame);
     if !b.good {
         return no_call();
     }
@@ -441,7 +248,7 @@ pub fn call_of(line: &[u8], frame: &mut [u8]) -> Call
     if LINE_MOST < line.len() {
         return no_call();
     }
-    let end = word_end(line, 0);
+    let end = words::word_end(line, 0);
     let kind = kind_of(&line[..end]);
     let form = form_of(kind);
     let most = form.most;

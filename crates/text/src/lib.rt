@@ -3,7 +3,7 @@
 ghost use mathlib.Core.Path.{_≡_};
 ghost use mathlib.Core.List.{[], _∷_};
 ghost use Prim.Native.Nat.{_^_, _≤_, _<_};
-ghost use Rattle.hexline.specs.Text.{decimal};
+ghost use Rattle.decimal.specs.Decimal.{decimal};
 ghost use Rattle.io.specs.Digits.{digits};
 ghost use Rattle.text.specs.Pieces.{from, put, putAll, bytePiece, bytesPieces};
 

@@ -6,16 +6,16 @@ use Prim.Native.Nat.{ℕ, _-_, _<_}
 use native.Mathlib.Omega.{arith}
 use borrow.Author.Needs.{needs}
 use lib.ListN.{length, drop}
-use Rattle.script.specs.declared.Gathered.{Gathered}
-use Rattle.script.specs.Lines.{gatheredFrom}
-use Rattle.script.proofs.Gathering.{gathered-further}
+use Rattle.words.specs.declared.Gathered.{Gathered}
+use Rattle.words.specs.Lines.{gatheredFrom}
+use Rattle.words.proofs.Gathering.{gathered-further}
 use Rattle.calls.proofs.take_piece.Statement.{statement}
 use Rattle.calls.proofs.take_piece.Tie as tie
 use Rattle.calls.proofs.take_piece.Reads as reads
 use Rattle.calls.proofs.take_piece.Lts as lts
 use Rattle.calls.proofs.answer_line.Reads as answer-line-reads
 use Rattle.calls.proofs.front.Reads as front-reads
-use Rattle.script.proofs.gather.Reads as gather-reads
+use Rattle.words.proofs.gather.Reads as gather-reads
 
 -- what was gathered ends further on
 further : (t : Gathered) (len : ℕ) (line : List ℕ) (from : ℕ) (piece : List ℕ)

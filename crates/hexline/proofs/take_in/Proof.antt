@@ -26,7 +26,7 @@ use Rattle.hexline.proofs.take_in.Reads as reads
 use Rattle.hexline.proofs.take_in.Lts as lts
 use Rattle.hexline.proofs.answer.Reads as answer-reads
 use Rattle.hexline.proofs.digit_values.Reads as digit-values-reads
-use Rattle.hexline.proofs.keep.Reads as keep-reads
+use Rattle.octets.proofs.keep.Reads as keep-reads
 use Rattle.hexline.proofs.take_pairs.Reads as take-pairs-reads
 use Rattle.hexline.proofs.value_in.Reads as value-in-reads
 

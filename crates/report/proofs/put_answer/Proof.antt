@@ -5,7 +5,7 @@ use Rattle.report.proofs.put_answer.Statement.{statement}
 use Rattle.report.proofs.put_answer.Tie as tie
 use Rattle.report.proofs.put_answer.Reads as reads
 use Rattle.report.proofs.put_answer.Lts as lts
-use Rattle.hexline.proofs.put_line.Reads as put-line-reads
+use Rattle.answer_line.proofs.put_line.Reads as put-line-reads
 
 enum-known-answer : tie.Need-enum-known-answer
 enum-known-answer c = search needs

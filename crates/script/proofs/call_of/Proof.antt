@@ -4,7 +4,7 @@ use mathlib.Core.Path.{sym, _∙_}
 use native.Mathlib.Omega.{arith}
 use borrow.Author.Tests.{not-true, not-false}
 use lib.Seq.{length-take-le}
-use Rattle.script.proofs.Wording.{word-within}
+use Rattle.words.proofs.Wording.{word-within}
 use Rattle.script.proofs.Calling.{few-numbers, too-long, bad-numbers, good-numbers}
 use borrow.Author.Needs.{needs}
 use Rattle.script.proofs.call_of.Statement.{statement}
@@ -16,7 +16,7 @@ use Rattle.script.proofs.kind_of.Reads as kind-of-reads
 use Rattle.script.proofs.no_call.Reads as no-call-reads
 use Rattle.script.proofs.read_numbers.Reads as read-numbers-reads
 use Rattle.script.proofs.rest.Reads as rest-reads
-use Rattle.script.proofs.word_end.Reads as word-end-reads
+use Rattle.words.proofs.word_end.Reads as word-end-reads
 
 no-call-requires : tie.Need-no-call-requires
 no-call-requires c κs = search needs

@@ -8,7 +8,7 @@ use Rattle.script.proofs.kind_of.Tie as tie
 use Rattle.script.proofs.kind_of.Reads as reads
 use Rattle.script.proofs.kind_of.Lts as lts
 use Rattle.script.proofs.frame_kind.Reads as frame-kind-reads
-use Rattle.script.proofs.is_same.Reads as is-same-reads
+use Rattle.words.proofs.is_same.Reads as is-same-reads
 
 slice-aggregate-is-same : tie.Need-slice-aggregate-is-same
 slice-aggregate-is-same c = search needs

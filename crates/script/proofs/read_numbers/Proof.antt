@@ -6,15 +6,15 @@ use native.Mathlib.Omega.{arith}
 use lib.ListN.{length}
 use borrow.Author.Needs.{needs}
 use borrow.Author.Tests.{not-true, not-false}
-use Rattle.script.proofs.Wording.{word-within, word-from}
+use Rattle.words.proofs.Wording.{word-within, word-from}
 use Rattle.script.proofs.Calling.{Reads, reads-start, reads-missing, reads-bad, reads-turn, reads-done}
 use Rattle.script.proofs.read_numbers.Statement.{statement}
 use Rattle.script.proofs.read_numbers.Tie as tie
 use Rattle.script.proofs.read_numbers.Reads as reads
 use Rattle.script.proofs.read_numbers.Lts as lts
-use Rattle.script.proofs.decimal_in.Reads as decimal-in-reads
+use Rattle.words.proofs.decimal_in.Reads as decimal-in-reads
 use Rattle.script.proofs.no_numbers.Reads as no-numbers-reads
-use Rattle.script.proofs.word_end.Reads as word-end-reads
+use Rattle.words.proofs.word_end.Reads as word-end-reads
 
 abbrev Inv-loop : tie.InvT-loop
 Inv-loop line from count most values₀ at₀ i₀ values at i = Reads line from count most values at i

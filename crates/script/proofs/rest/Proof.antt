@@ -7,7 +7,7 @@ use Rattle.script.proofs.rest.Statement.{statement}
 use Rattle.script.proofs.rest.Tie as tie
 use Rattle.script.proofs.rest.Reads as reads
 use Rattle.script.proofs.rest.Lts as lts
-use Rattle.script.proofs.bytes_in.Reads as bytes-in-reads
+use Rattle.words.proofs.bytes_in.Reads as bytes-in-reads
 use Rattle.script.proofs.no_call.Reads as no-call-reads
 
 no-call-requires : tie.Need-no-call-requires

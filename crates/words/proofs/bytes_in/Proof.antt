@@ -1,0 +1,95 @@
+-- `words::bytes_in`: the word is read as a line of the replay is.
+-- Assumes nothing.
+use mathlib.Core.Path.{sym, _∙_}
+use Rattle.words.proofs.Wording.{no-room, no-bytes, dash, with-newline, bad-bytes, good-bytes}
+use borrow.Author.Needs.{needs}
+use Rattle.words.proofs.bytes_in.Statement.{statement}
+use Rattle.words.proofs.bytes_in.Tie as tie
+use Rattle.words.proofs.bytes_in.Reads as reads
+use Rattle.words.proofs.bytes_in.Lts as lts
+use Rattle.hexline.proofs.Line.is_refused.Reads as is-refused-reads
+use Rattle.hexline.proofs.Line.start.Reads as start-reads
+use Rattle.hexline.proofs.take_in.Reads as take-in-reads
+use Rattle.words.proofs.is_same.Reads as is-same-reads
+
+returns : tie.Need-returns
+returns c =
+    let a = c .before .before .before .args in
+    no-room (a .frame .now) (a .word .now) (c .if1 .taken)
+
+returns-2 : tie.Need-returns-2
+returns-2 c =
+    let a = c .before .before .before .before .args in
+    no-bytes (a .frame .now) (a .word .now) (c .before .if1 .left) (c .if2 .taken)
+
+slice-aggregate-is-same : tie.Need-slice-aggregate-is-same
+slice-aggregate-is-same c = search needs
+
+is-same-requires : tie.Need-is-same-requires
+is-same-requires c κs = search needs
+
+returns-3 : tie.Need-returns-3
+returns-3 c =
+    let a = c .before .before .before .before .before .before .before .args in
+    dash (a .frame .now) (a .word .now) (c .before .before .before .before .if1 .left) (c .before .before .before .if2 .left) (sym (c .before .is-same .ensures) ∙ c .if3 .taken)
+
+start-requires : tie.Need-start-requires
+start-requires c κs = search needs
+
+take-in-requires : tie.Need-take-in-requires
+take-in-requires c κs = search needs
+
+same-length : tie.Need-same-length
+same-length c = search needs
+
+returns-4 : tie.Need-returns-4
+returns-4 c =
+    let a = c .before .before .before .before .before .before .before .before .before .before .before .before .before .before .args in
+    let t = c .before .before .before .before .take-in .ensures in
+    with-newline (a .frame .now) (a .word .now) (c .before .before .before .before .before .before .before .before .before .before .before .if1 .left) (c .before .before .before .before .before .before .before .before .before .before .if2 .left)
+    (sym (c .before .before .before .before .before .before .before .before .is-same .ensures) ∙ c .before .before .before .before .before .before .before .if3 .left) _ _ (rw (c .before .before .before .before .before .before .start .ensures) at (t .0))
+    (rw (c .before .before .before .before .before .before .start .ensures) at (t .1)) (c .if4 .taken)
+
+is-refused-requires : tie.Need-is-refused-requires
+is-refused-requires c κs = search needs
+
+same-length-2 : tie.Need-same-length-2
+same-length-2 c = search needs
+
+returns-5 : tie.Need-returns-5
+returns-5 c =
+    let a = c .before .before .before .before .before .before .before .before .before .before .before .before .before .before .before .before .args in
+    let t = c .before .before .before .before .before .before .take-in .ensures in
+    bad-bytes (a .frame .now) (a .word .now) (c .before .before .before .before .before .before .before .before .before .before .before .before .before .if1 .left) (c .before .before .before .before .before .before .before .before .before .before .before .before .if2 .left)
+    (sym (c .before .before .before .before .before .before .before .before .before .before .is-same .ensures) ∙ c .before .before .before .before .before .before .before .before .before .if3 .left) _ _ (rw (c .before .before .before .before .before .before .before .before .start .ensures) at (t .0))
+    (rw (c .before .before .before .before .before .before .before .before .start .ensures) at (t .1)) (c .before .before .if4 .left) (sym (c .before .is-refused .ensures) ∙ c .if5 .taken)
+
+same-length-3 : tie.Need-same-length-3
+same-length-3 c = search needs
+
+returns-6 : tie.Need-returns-6
+returns-6 c =
+    let a = c .before .before .before .before .before .before .before .before .before .before .before .before .before .before .before .before .args in
+    let t = c .before .before .before .before .before .before .take-in .ensures in
+    good-bytes (a .frame .now) (a .word .now) (c .before .before .before .before .before .before .before .before .before .before .before .before .before .if1 .left) (c .before .before .before .before .before .before .before .before .before .before .before .before .if2 .left)
+    (sym (c .before .before .before .before .before .before .before .before .before .before .is-same .ensures) ∙ c .before .before .before .before .before .before .before .before .before .if3 .left) _ _ (rw (c .before .before .before .before .before .before .before .before .start .ensures) at (t .0))
+    (rw (c .before .before .before .before .before .before .before .before .start .ensures) at (t .1)) (c .before .before .if4 .left) (sym (c .before .is-refused .ensures) ∙ c .if5 .left)
+
+pub bytes-in-spec : {M : Type 1} → statement M
+bytes-in-spec =
+    tie.close
+    (tie.spec
+    returns
+    returns-2
+    slice-aggregate-is-same
+    is-same-requires
+    returns-3
+    start-requires
+    take-in-requires
+    same-length
+    returns-4
+    is-refused-requires
+    same-length-2
+    returns-5
+    same-length-3
+    returns-6)
