@@ -2,13 +2,14 @@
 FRAMES ?= crates/replay/stdin
 PREFIX ?= /usr/local
 DESTDIR ?=
+SEED ?= 2
 
 # What the library for C is made from: its crate and those that crates.txt lists behind it.
 CAPI := target/staticlib/libcapi.a
 CAPI_CRATES := capi $(shell sed -n 's/^capi://p' crates.txt)
 CAPI_SOURCES := $(wildcard $(foreach crate,$(CAPI_CRATES),crates/$(crate)/src/*.rt crates/$(crate)/specs/*.antt))
 
-.PHONY: test check replay bench install pictures clean
+.PHONY: test check replay bench soak install pictures clean
 
 test:
 	.ci/run
@@ -30,6 +31,17 @@ bench:
 	cd rust && cargo build --offline --profile bench-release -p bench --features proved
 	target/rust/bench-release/bench-host
 	target/rust/bench-release/bench-replay target/bin/replay
+
+# What takes too long for the gate: a file of 1 GB through the replay, and the comparisons with the independent implementation ten
+# times as long, from SEED=number on. It needs 1 GB of disk below target/.
+soak:
+	rt check replay calls
+	rt staticlib capi
+	rt staticlib host_run
+	cd rust && cargo test --offline --release -p logwhisker --test streams -- --include-ignored --nocapture
+	cd rust && LW_SEED=$(SEED) LW_INPUTS=12000000 LW_FRAMES=4000000 LW_LINES=20000000 LW_SCRIPTS=240 LW_LISTS=4000 LW_LONG_LISTS=10 \
+		cargo test --offline --release -p logwhisker -p reference --tests
+	@echo 'soak: all the same from seed $(SEED) on'
 
 # Puts header, static library and pkg-config file below PREFIX, with DESTDIR in front while copying: docs/C-API.md.
 install: $(CAPI)

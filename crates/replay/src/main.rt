@@ -1,6 +1,7 @@
 // Replays a capture: reads lines of hexadecimal, one frame a line, from standard input, gives each frame to a charging host of own
 // ID 1 and peer 2, and writes the answers, and last the totals. All that matters is in the libraries below; what is assumed is
-// that read and write do what their pages say.
+// that read and write do what their pages say. Where one of them fails, that is said on standard error and no totals are written: a
+// program has no exit status, so it is the last line that tells a whole replay.
 use hexline::Line;
 use host::Pair;
 use libc::STDIN_FILENO;
@@ -16,34 +17,61 @@ const LINES_MOST: u32 = 1000000;
 // Room that the longest answer line needs.
 const LINE_MOST: usize = 170;
 
-// Where the replay stands between two pieces of the input.
+// Where the replay stands between two pieces of the input; failed says that reading or writing did.
 struct Replay {
     pub pair: Pair,
     pub line: Line,
     pub totals: Totals,
     pub lines: u32,
     pub used: usize,
+    pub failed: bool,
 }
 
-// The used part of the output buffer, written.
-fn write_out(out: &[u8], used: usize) {
+// How much of the output buffer is used, and whether an answer was lost.
+struct Room {
+    pub used: usize,
+    pub failed: bool,
+}
+
+// How many bytes were read, 0 at the input's end, and whether reading failed.
+struct Got {
+    pub count: usize,
+    pub failed: bool,
+}
+
+// Writes the used part of the output buffer, and answers whether it could.
+fn write_out(out: &[u8], used: usize) -> bool {
     if used <= out.len() {
-        if !io::write_all(STDOUT_FILENO, &out[..used]) {
-            os::fail(b"write");
+        if io::write_all(STDOUT_FILENO, &out[..used]) {
+            return true;
         }
+        os::fail(b"write");
     }
+    false
 }
 
-// The output buffer emptied where the next line might not fit; answers how much of it is used.
-fn make_room(out: &[u8], used: usize) -> usize {
+// The output buffer emptied where the next line might not fit. After a failure nothing more is written, so that the output has no
+// gap.
+fn make_room(out: &[u8], used: usize, failed: bool) -> Room {
+    if failed {
+        return Room { used: 0, failed };
+    }
     if out.len() < used {
-        return 0;
+        return Room {
+            used: 0,
+            failed: true,
+        };
     }
-    if out.len() - used < LINE_MOST {
-        write_out(out, used);
-        return 0;
+    if LINE_MOST <= out.len() - used {
+        return Room { used, failed };
     }
-    used
+    if write_out(out, used) {
+        return Room { used: 0, failed };
+    }
+    Room {
+        used: 0,
+        failed: true,
+    }
 }
 
 // Takes in the characters of a piece, and answers each line that ends in it.
@@ -59,6 +87,7 @@ fn take_piece(
     let mut totals = at_start.totals;
     let mut lines = at_start.lines;
     let mut used = at_start.used;
+    let mut failed = at_start.failed;
     let mut at = 0;
     while at < piece.len() && lines < LINES_MOST {
         let taken = hexline::take_in(line, frame, piece, at);
@@ -70,7 +99,9 @@ fn take_piece(
             let after = step.pair;
             let answer = step.answer;
             pair = after;
-            used = report::put_answer(out, make_room(out, used), answer);
+            let room = make_room(out, used, failed);
+            failed = room.failed;
+            used = report::put_answer(out, room.used, answer);
             let sums = totals.with(answer);
             totals = sums;
             let fresh = Line::start();
@@ -84,18 +115,52 @@ fn take_piece(
         totals,
         lines,
         used,
+        failed,
     }
 }
 
-// Reads once; answers how many bytes came, and 0 where the input has ended or cannot be read.
-fn read_some(piece: &mut [u8]) -> usize
-    ensures { λ r. ⌜ r ≤ length (now (piece .entry)) ⌝ }
+// Reads once.
+fn read_some(piece: &mut [u8]) -> Got
+    ensures { λ r. ⌜ r .count ≤ length (now (piece .entry)) ⌝ }
 {
     let got = libc::read(STDIN_FILENO, piece);
     if got < 0 {
         os::fail(b"read");
+        return Got {
+            count: 0,
+            failed: true,
+        };
     }
-    io::count(got, piece)
+    Got {
+        count: io::count(got, piece),
+        failed: false,
+    }
+}
+
+// Where the replay stands once reading has failed: the answers so far are written, and it goes no further.
+fn stop(state: Replay, out: &[u8]) -> Replay {
+    if !state.failed {
+        write_out(out, state.used);
+    }
+    let pair = state.pair;
+    let line = state.line;
+    let totals = state.totals;
+    Replay {
+        pair,
+        line,
+        totals,
+        lines: state.lines,
+        used: 0,
+        failed: true,
+    }
+}
+
+// Whether nothing more is to be read.
+fn is_over(state: Replay) -> bool {
+    if state.failed {
+        return true;
+    }
+    LINES_MOST <= state.lines
 }
 
 // Takes in the input piece by piece, until it ends or enough lines are answered. A loop that is proved has to end, and nothing
@@ -111,13 +176,16 @@ fn read_all(
     let mut turns = u64::MAX;
     while turns > 0 {
         turns -= 1;
-        let n = read_some(piece);
-        if n == 0 {
+        let got = read_some(piece);
+        if got.failed {
+            return stop(state, out);
+        }
+        if got.count == 0 {
             return state;
         }
-        let next = take_piece(state, &piece[..n], frame, memory, out);
+        let next = take_piece(state, &piece[..got.count], frame, memory, out);
         state = next;
-        if LINES_MOST <= state.lines {
+        if is_over(state) {
             return state;
         }
     }
@@ -126,6 +194,9 @@ fn read_all(
 
 // A last line without a newline counts if it has a character.
 fn end_line(at_end: Replay, frame: &mut [u8], memory: &mut [u8], out: &mut [u8]) -> Replay {
+    if at_end.failed {
+        return at_end;
+    }
     let rest = at_end.line;
     if rest.is_empty() {
         return at_end;
@@ -138,8 +209,11 @@ fn finish(at_end: Replay, frame: &mut [u8], memory: &mut [u8], out: &mut [u8]) {
     let state = end_line(at_end, frame, memory, out);
     let t = state.totals;
     let numbers = [t.messages, t.bytes, t.completed];
-    let at = make_room(out, state.used);
-    let used = answer_line::put_line(out, at, b'T', &numbers);
+    let room = make_room(out, state.used, state.failed);
+    if room.failed {
+        return;
+    }
+    let used = answer_line::put_line(out, room.used, b'T', &numbers);
     write_out(out, used);
 }
 
@@ -160,6 +234,7 @@ fn main() {
         },
         lines: 0,
         used: 0,
+        failed: false,
     };
     let end = read_all(start, &mut piece, &mut frame, &mut memory, &mut out);
     finish(end, &mut frame, &mut memory, &mut out);

@@ -28,11 +28,11 @@ further : (t : Taken) (line : Line) (frame : List ℕ) (from : ℕ) (piece : Lis
 further t line frame from piece e l = rw e (taken-further line frame from piece l)
 
 abbrev Inv-loop : tie.InvT-loop
-Inv-loop piece frame₀ memory₀ out₀ pair₀ line₀ totals₀ lines₀ used₀ at₀ frame memory out pair line totals lines used at =
+Inv-loop piece frame₀ memory₀ out₀ pair₀ line₀ totals₀ lines₀ used₀ failed₀ at₀ frame memory out pair line totals lines used failed at =
     (length frame ≡ length frame₀) × (length memory ≡ length memory₀) × (length out ≡ length out₀)
 
 abbrev μ-loop : tie.MeasureT-loop
-μ-loop piece frame₀ memory₀ out₀ pair₀ line₀ totals₀ lines₀ used₀ at₀ frame memory out pair line totals lines used at =
+μ-loop piece frame₀ memory₀ out₀ pair₀ line₀ totals₀ lines₀ used₀ failed₀ at₀ frame memory out pair line totals lines used failed at =
     length piece - at
 
 loop-holds : tie.Need-loop-holds Inv-loop μ-loop
@@ -57,23 +57,34 @@ start-requires : tie.Need-start-requires Inv-loop μ-loop
 start-requires c κs = search needs
 
 add-lines : tie.Need-add-lines Inv-loop μ-loop
-add-lines c = omega (arith, ltb-true (c .before .before .before .before .before .before .before .before .before .before .before .before .before .before .before .before .before .before .before .before .before .before .loop .lines) 1000000 (c .before .before .before .before .before .before .before .before .before .before .before .before .before .before .before .before .before .before .before .before .if1 .taken))
+add-lines c =
+    let s = c .before .before .before .before .before .before .before .before .before .before .before .before .before .before .before .before .before .before in
+    omega (arith, ltb-true (s .before .before .before .before .loop .lines) 1000000 (s .before .before .if1 .taken))
 
 loop-less : tie.Need-loop-less Inv-loop μ-loop
-loop-less c = omega (arith, further _ _ _ _ _ (c .before .before .before .before .before .before .before .before .before .before .before .before .before .before .before .before .before .before .take-in .ensures .0) (c .before .before .before .before .before .before .before .before .before .before .before .before .before .before .before .before .before .before .before .before .before .loop-test .taken), c .before .before .before .before .before .before .before .before .before .before .before .before .before .before .before .before .before .before .before .before .before .loop-test .taken)
+loop-less c =
+    let s = c .before .before .before .before .before .before .before .before .before .before .before .before .before .before .before .before .before .before in
+    let more = s .before .before .before .loop-test .taken in
+    omega (arith, further _ _ _ _ _ (s .take-in .ensures .0) more, more)
 
 loop-again : tie.Need-loop-again Inv-loop μ-loop
 loop-again c =
-    let k = c .before .before .before .before .before .before .before .before .before .before .before .before .before .before .before .before .before .before .before .before .before .before .loop .inv in
-    (c .before .before .before .before .before .before .before .before .before .before .before .before .before .before .before .before .before .before .take-in .kept .1 .0 ∙ k .0, c .before .before .before .before .before .before .before .before .before .before .before .answer-line .kept .1 .1 .1 .0 ∙ k .1, c .before .before .before .before .put-answer .kept .0 ∙ k .2)
+    let s = c .before .before .before .before .before .before .before .before .before .before .before in
+    let t = s .before .before .before .before .before .before .before in
+    let k = t .before .before .before .before .loop .inv in
+    (t .take-in .kept .1 .0 ∙ k .0, s .answer-line .kept .1 .1 .1 .0 ∙ k .1, c .before .before .before .before .put-answer .kept .0 ∙ k .2)
 
 loop-less-2 : tie.Need-loop-less-2 Inv-loop μ-loop
-loop-less-2 c = omega (arith, further _ _ _ _ _ (c .before .before .before .before .take-in .ensures .0) (c .before .before .before .before .before .before .before .loop-test .taken), c .before .before .before .before .before .before .before .loop-test .taken)
+loop-less-2 c =
+    let s = c .before .before .before .before in
+    let more = s .before .before .before .loop-test .taken in
+    omega (arith, further _ _ _ _ _ (s .take-in .ensures .0) more, more)
 
 loop-again-2 : tie.Need-loop-again-2 Inv-loop μ-loop
 loop-again-2 c =
-    let k = c .before .before .before .before .before .before .before .before .loop .inv in
-    (c .before .before .before .before .take-in .kept .1 .0 ∙ k .0, k .1, k .2)
+    let s = c .before .before .before .before in
+    let k = s .before .before .before .before .loop .inv in
+    (s .take-in .kept .1 .0 ∙ k .0, k .1, k .2)
 
 same-length : tie.Need-same-length Inv-loop μ-loop
 same-length c = c .before .before .loop .inv .0
