@@ -1,5 +1,4 @@
--- What the private functions behind `take_in` promise: the table of digits, and how far a walk over a piece has come.
--- No promise of a public function names anything here.
+-- The table of digits, and how far a walk over a piece has come, which only private functions promise.
 use mathlib.Core.Path.{_≡_}
 use mathlib.Core.List.{List, [], _∷_}
 use Prim.Native.Nat.{ℕ, zero, suc, _+_}

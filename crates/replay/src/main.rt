@@ -90,7 +90,7 @@ fn take_piece(
     let mut failed = at_start.failed;
     let mut at = 0;
     while at < piece.len() && lines < LINES_MOST {
-        let taken = hexline::take_in(line, frame, piece, at);
+        let taken = hexfeed::take_in(line, frame, piece, at);
         let now = taken.line;
         at = taken.at;
         line = now;

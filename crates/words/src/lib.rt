@@ -167,7 +167,7 @@ pub fn bytes_in(word: &[u8], frame: &mut [u8]) -> Bytes
     if is_same(word, b"-") {
         return Bytes { len: 0, good: true };
     }
-    let taken = hexline::take_in(Line::start(), frame, word, 0);
+    let taken = hexfeed::take_in(Line::start(), frame, word, 0);
     let line = taken.line;
     if taken.ended {
         return Bytes {

@@ -16,7 +16,7 @@ use Rattle.replay.proofs.take_piece.Tie as tie
 use Rattle.replay.proofs.take_piece.Reads as reads
 use Rattle.replay.proofs.take_piece.Lts as lts
 use Rattle.hexline.proofs.Line.start.Reads as start-reads
-use Rattle.hexline.proofs.take_in.Reads as take-in-reads
+use Rattle.hexfeed.proofs.take_in.Reads as take-in-reads
 use Rattle.replay.proofs.make_room.Reads as make-room-reads
 use Rattle.report.proofs.Totals.with.Reads as with-reads
 use Rattle.report.proofs.answer_line.Reads as answer-line-reads

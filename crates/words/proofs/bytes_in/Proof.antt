@@ -9,7 +9,7 @@ use Rattle.words.proofs.bytes_in.Reads as reads
 use Rattle.words.proofs.bytes_in.Lts as lts
 use Rattle.hexline.proofs.Line.is_refused.Reads as is-refused-reads
 use Rattle.hexline.proofs.Line.start.Reads as start-reads
-use Rattle.hexline.proofs.take_in.Reads as take-in-reads
+use Rattle.hexfeed.proofs.take_in.Reads as take-in-reads
 use Rattle.words.proofs.is_same.Reads as is-same-reads
 
 returns : tie.Need-returns

@@ -1,22 +1,22 @@
--- `hexline::take_pairs`: each turn is two steps of the walk, and what is left of the piece has a pair for each byte to come.
+-- `hexfeed::take_pairs`: each turn is two steps of the walk, and what is left of the piece has a pair for each byte to come.
 -- Assumes nothing.
 use mathlib.Core.Bool.{false}
 use Prim.Native.Nat.{_-_, _*_, _≤_}
 use native.Mathlib.Omega.{arith}
 use borrow.Author.Needs.{needs}
 use lib.ListN.{length}
 use Rattle.hexline.specs.Taking.{state}
 use Rattle.hexline.specs.Walking.{stateOf, Walked}
 use Rattle.hexline.proofs.Digits.{value-is}
 use Rattle.hexline.proofs.Taking.{walked-start, walked-pair}
-use Rattle.hexline.proofs.take_pairs.Statement.{statement}
-use Rattle.hexline.proofs.take_pairs.Tie as tie
-use Rattle.hexline.proofs.take_pairs.Reads as reads
-use Rattle.hexline.proofs.take_pairs.Lts as lts
-use Rattle.hexline.proofs.answer.Reads as answer-reads
+use Rattle.hexfeed.proofs.take_pairs.Statement.{statement}
+use Rattle.hexfeed.proofs.take_pairs.Tie as tie
+use Rattle.hexfeed.proofs.take_pairs.Reads as reads
+use Rattle.hexfeed.proofs.take_pairs.Lts as lts
+use Rattle.hexfeed.proofs.answer.Reads as answer-reads
 use Rattle.hexline.proofs.digit_values.Reads as digit-values-reads
-use Rattle.hexline.proofs.pairs_until.Reads as pairs-until-reads
-use Rattle.hexline.proofs.value_in.Reads as value-in-reads
+use Rattle.hexfeed.proofs.pairs_until.Reads as pairs-until-reads
+use Rattle.hexfeed.proofs.value_in.Reads as value-in-reads
 
 abbrev Inv-loop : tie.InvT-loop
 Inv-loop line frame₀ piece from len₀ half₀ at₀ values until frame len half at =

@@ -1,4 +1,4 @@
--- `hexline::take_in`: what the pairs leave goes from character to character as the definition does.
+-- `hexfeed::take_in`: what the pairs leave goes from character to character as the definition does.
 -- Assumes nothing.
 use mathlib.Core.Path.{refl, _∙_}
 use Prim.Native.Nat.{_-_}
@@ -20,15 +20,15 @@ use Rattle.hexline.proofs.Taking.{
   on-high,
   on-full,
 }
-use Rattle.hexline.proofs.take_in.Statement.{statement}
-use Rattle.hexline.proofs.take_in.Tie as tie
-use Rattle.hexline.proofs.take_in.Reads as reads
-use Rattle.hexline.proofs.take_in.Lts as lts
-use Rattle.hexline.proofs.answer.Reads as answer-reads
+use Rattle.hexfeed.proofs.take_in.Statement.{statement}
+use Rattle.hexfeed.proofs.take_in.Tie as tie
+use Rattle.hexfeed.proofs.take_in.Reads as reads
+use Rattle.hexfeed.proofs.take_in.Lts as lts
+use Rattle.hexfeed.proofs.answer.Reads as answer-reads
 use Rattle.hexline.proofs.digit_values.Reads as digit-values-reads
 use Rattle.octets.proofs.keep.Reads as keep-reads
-use Rattle.hexline.proofs.take_pairs.Reads as take-pairs-reads
-use Rattle.hexline.proofs.value_in.Reads as value-in-reads
+use Rattle.hexfeed.proofs.take_pairs.Reads as take-pairs-reads
+use Rattle.hexfeed.proofs.value_in.Reads as value-in-reads
 
 abbrev Inv-loop : tie.InvT-loop
 Inv-loop frame₀ piece from len₀ half₀ odd₀ bad₀ at₀ values frame len half odd bad at =
