@@ -481,36 +481,39 @@ def draw_lives():
 
 # Floors: what is written beside them, their colour, and their rectangle: left, right, lowest row, highest row.
 FLOORS = {
-    "kit": ("libraries of the Rattle kit", "#ffffff", 560, 1070, 0, 0),
+    "kit": ("libraries of the Rattle kit", "#ffffff", 560, 1140, 0, 0),
     "ground": ("ground: no knowledge of frames", GREY, 30, 720, 1, 1),
     "format": ("format: defined once, in wire", BLUE, 200, 560, 2, 3),
-    "card": ("card", GREEN, 30, 336, 4, 5),
-    "host": ("host", AMBER, 374, 556, 4, 5),
-    "C": ("C: numbers, byte slices", TEAL, 598, 736, 4, 4),
-    "theorem": ("theorem", VIOLET, 30, 290, 6, 6),
-    "tests": ("tests", GREY, 334, 576, 6, 6),
-    "lines": ("lines: characters and text", ROSE, 770, 1070, 2, 6),
-    "programs": ("programs: input and output", TEAL, 770, 1070, 7, 7),
+    "card": ("card", GREEN, 30, 362, 4, 6),
+    "host": ("host", AMBER, 404, 596, 4, 7),
+    "C": ("C: numbers, byte slices", TEAL, 642, 766, 4, 4),
+    "theorem": ("theorem", VIOLET, 30, 290, 8, 8),
+    "tests": ("tests", GREY, 334, 596, 8, 8),
+    "lines": ("lines: characters and text", ROSE, 812, 1140, 2, 8),
+    "programs": ("programs: input and output", TEAL, 812, 1140, 9, 9),
 }
 
 # Where a crate is drawn: its floor, its row from below, and the middle of its box.
 PLACES = {
-    "bytes": ("kit", 0, 640), "io": ("kit", 0, 800), "libc": ("kit", 0, 890), "os": ("kit", 0, 1010),
+    "bytes": ("kit", 0, 640), "io": ("kit", 0, 860), "libc": ("kit", 0, 960), "os": ("kit", 0, 1060),
     "marks": ("ground", 1, 110), "seq": ("ground", 1, 270), "refusal": ("ground", 1, 460), "octets": ("ground", 1, 640),
     "wire": ("format", 2, 380), "writer": ("format", 3, 290), "reader": ("format", 3, 470),
     "send_window": ("card", 4, 110), "sendings": ("card", 4, 270), "card": ("card", 5, 190),
-    "transactions": ("host", 4, 466), "host": ("host", 5, 466),
-    "capi": ("C", 4, 660),
-    "delivery": ("theorem", 6, 165),
-    "edges": ("tests", 6, 400), "host_run": ("tests", 6, 520),
-    "hexline": ("lines", 2, 850), "buffer": ("lines", 2, 985),
-    "script": ("lines", 3, 985), "text": ("lines", 3, 880),
-    "report": ("lines", 6, 840), "pair_text": ("lines", 6, 975),
-    "replay": ("programs", 7, 840), "calls": ("programs", 7, 975),
+    "assembly": ("card", 6, 100), "retransmission": ("card", 6, 270),
+    "transactions": ("host", 4, 490), "host": ("host", 5, 450), "judging": ("host", 5, 548),
+    "depositing": ("host", 6, 470), "reception": ("host", 7, 500),
+    "capi": ("C", 4, 704),
+    "delivery": ("theorem", 8, 165),
+    "edges": ("tests", 8, 400), "host_run": ("tests", 8, 520),
+    "hexline": ("lines", 2, 870), "decimal": ("lines", 2, 975), "buffer": ("lines", 2, 1080),
+    "hexfeed": ("lines", 3, 860), "answer_line": ("lines", 3, 975), "text": ("lines", 3, 1080),
+    "words": ("lines", 4, 860), "script": ("lines", 5, 860),
+    "report": ("lines", 8, 880), "pair_text": ("lines", 8, 1050),
+    "replay": ("programs", 9, 880), "calls": ("programs", 9, 1050),
 }
 
 TOP, PITCH, BOX = 60, 86, 32
-ROWS = 8
+ROWS = 10
 
 
 def read_crates():
@@ -568,7 +571,7 @@ def lanes_of(row, names):
         if start > left:
             free.append((left, start))
         left = end
-    return free + [(left, 1092)]
+    return free + [(left, 1162)]
 
 
 def way_through(row, ideal, names, taken):
@@ -620,7 +623,7 @@ INKS = {
 
 
 def draw_crates(sees):
-    p = Picture("crates.svg", 1100, 740, "The crates by floors, and what each may see")
+    p = Picture("crates.svg", 1170, 912, "The crates by floors, and what each may see")
     names = sorted(set(sees) | {b for seen in sees.values() for b in seen})
     refuse_crowding(names)
     p.text(30, 28, "An arrow goes from a crate to one that it may see. Where another crate that it sees leads there, "

@@ -28,7 +28,9 @@ word-end-requires : tie.Need-word-end-requires
 word-end-requires c κs = search needs
 
 slice-aggregate-kind-of : tie.Need-slice-aggregate-kind-of
-slice-aggregate-kind-of c = sym (length-take-le _ _ (omega (arith, c .before .word-end .ensures, word-within (c .before .before .before .before .before .args .line .now) 0 (omega arith))))
+slice-aggregate-kind-of c =
+    let c5 = c .before .before .before .before .before in
+    sym (length-take-le _ _ (omega (arith, c .before .word-end .ensures, word-within (c5 .args .line .now) 0 (omega arith))))
 
 kind-of-requires : tie.Need-kind-of-requires
 kind-of-requires c κs = search needs
@@ -44,10 +46,15 @@ no-call-requires-2 c κs = search needs
 
 returns-2 : tie.Need-returns-2
 returns-2 c =
-    let a = c .before .before .before .before .before .before .before .before .before .before .before .before .args in
+    let c5 = c .before .before .before .before .before in
+    let c6 = c5 .before in
+    let c8 = c6 .before .before in
+    let c9 = c8 .before in
+    let c12 = c9 .before .before .before in
+    let a = c12 .args in
     rw (c .no-call2 .ensures)
-    (bad-numbers (a .frame .now) (a .line .now) (c .before .before .before .before .before .before .before .before .before .if1 .left) _ (c .before .before .before .before .before .before .before .before .word-end .ensures) _ (c .before .before .before .before .before .before .kind-of .ensures) _
-    (c .before .before .before .before .before .form-of .ensures) _ (c .before .before .before .read-numbers .ensures) (not-true _ (c .before .if2 .taken)))
+    (bad-numbers (a .frame .now) (a .line .now) (c9 .if1 .left) _ (c8 .word-end .ensures) _ (c6 .kind-of .ensures) _
+    (c5 .form-of .ensures) _ (c .before .before .before .read-numbers .ensures) (not-true _ (c .before .if2 .taken)))
 
 rest-requires : tie.Need-rest-requires
 rest-requires c κs = search needs
@@ -57,9 +64,16 @@ same-length c = search needs
 
 returns-3 : tie.Need-returns-3
 returns-3 c =
-    let a = c .before .before .before .before .before .before .before .before .before .before .before .before .before .before .before .before .args in
-    good-numbers (a .frame .now) (a .line .now) (c .before .before .before .before .before .before .before .before .before .before .before .before .before .if1 .left) _ (c .before .before .before .before .before .before .before .before .before .before .before .before .word-end .ensures) _ (c .before .before .before .before .before .before .before .before .before .before .kind-of .ensures) _
-    (c .before .before .before .before .before .before .before .before .before .form-of .ensures) _ (c .before .before .before .before .before .before .before .read-numbers .ensures) _ _ (not-false _ (c .before .before .before .before .before .if2 .left)) (c .before .before .rest .ensures)
+    let c5 = c .before .before .before .before .before in
+    let c7 = c5 .before .before in
+    let c9 = c7 .before .before in
+    let c10 = c9 .before in
+    let c12 = c10 .before .before in
+    let c13 = c12 .before in
+    let c16 = c13 .before .before .before in
+    let a = c16 .args in
+    good-numbers (a .frame .now) (a .line .now) (c13 .if1 .left) _ (c12 .word-end .ensures) _ (c10 .kind-of .ensures) _
+    (c9 .form-of .ensures) _ (c7 .read-numbers .ensures) _ _ (not-false _ (c5 .if2 .left)) (c .before .before .rest .ensures)
 
 pub call-of-spec : {M : Type 1} → statement M
 call-of-spec =

@@ -27,7 +27,9 @@ is-same-requires-2 c κs = search needs
 
 returns-2 : tie.Need-returns-2
 unfolding questionKind
-returns-2 c = rw (sym (c .before .before .before .before .is-same .ensures) ∙ c .before .before .before .if1 .left, sym (c .before .is-same2 .ensures) ∙ c .if2 .taken)
+returns-2 c =
+    let c4 = c .before .before .before .before in
+    rw (sym (c4 .is-same .ensures) ∙ c .before .before .before .if1 .left, sym (c .before .is-same2 .ensures) ∙ c .if2 .taken)
 
 slice-aggregate-is-same-3 : tie.Need-slice-aggregate-is-same-3
 slice-aggregate-is-same-3 c = search needs
@@ -37,7 +39,15 @@ is-same-requires-3 c κs = search needs
 
 returns-3 : tie.Need-returns-3
 unfolding questionKind
-returns-3 c = rw (sym (c .before .before .before .before .before .before .before .is-same .ensures) ∙ c .before .before .before .before .before .before .if1 .left, sym (c .before .before .before .before .is-same2 .ensures) ∙ c .before .before .before .if2 .left, sym (c .before .is-same3 .ensures) ∙ c .if3 .taken)
+returns-3 c =
+    let c4 = c .before .before .before .before in
+    let c6 = c4 .before .before in
+    let c7 = c6 .before in
+    rw (
+      sym (c7 .is-same .ensures) ∙ c6 .if1 .left,
+      sym (c4 .is-same2 .ensures) ∙ c .before .before .before .if2 .left,
+      sym (c .before .is-same3 .ensures) ∙ c .if3 .taken,
+    )
 
 slice-aggregate-is-same-4 : tie.Need-slice-aggregate-is-same-4
 slice-aggregate-is-same-4 c = search needs
@@ -47,11 +57,33 @@ is-same-requires-4 c κs = search needs
 
 returns-4 : tie.Need-returns-4
 unfolding questionKind
-returns-4 c = rw (sym (c .before .before .before .before .before .before .before .before .before .before .is-same .ensures) ∙ c .before .before .before .before .before .before .before .before .before .if1 .left, sym (c .before .before .before .before .before .before .before .is-same2 .ensures) ∙ c .before .before .before .before .before .before .if2 .left, sym (c .before .before .before .before .is-same3 .ensures) ∙ c .before .before .before .if3 .left, sym (c .before .is-same4 .ensures) ∙ c .if4 .taken)
+returns-4 c =
+    let c4 = c .before .before .before .before in
+    let c6 = c4 .before .before in
+    let c7 = c6 .before in
+    let c9 = c7 .before .before in
+    let c10 = c9 .before in
+    rw (
+      sym (c10 .is-same .ensures) ∙ c9 .if1 .left,
+      sym (c7 .is-same2 .ensures) ∙ c6 .if2 .left,
+      sym (c4 .is-same3 .ensures) ∙ c .before .before .before .if3 .left,
+      sym (c .before .is-same4 .ensures) ∙ c .if4 .taken,
+    )
 
 returns-5 : tie.Need-returns-5
 unfolding questionKind
-returns-5 c = rw (sym (c .before .before .before .before .before .before .before .before .before .before .is-same .ensures) ∙ c .before .before .before .before .before .before .before .before .before .if1 .left, sym (c .before .before .before .before .before .before .before .is-same2 .ensures) ∙ c .before .before .before .before .before .before .if2 .left, sym (c .before .before .before .before .is-same3 .ensures) ∙ c .before .before .before .if3 .left, sym (c .before .is-same4 .ensures) ∙ c .if4 .left)
+returns-5 c =
+    let c4 = c .before .before .before .before in
+    let c6 = c4 .before .before in
+    let c7 = c6 .before in
+    let c9 = c7 .before .before in
+    let c10 = c9 .before in
+    rw (
+      sym (c10 .is-same .ensures) ∙ c9 .if1 .left,
+      sym (c7 .is-same2 .ensures) ∙ c6 .if2 .left,
+      sym (c4 .is-same3 .ensures) ∙ c .before .before .before .if3 .left,
+      sym (c .before .is-same4 .ensures) ∙ c .if4 .left,
+    )
 
 pub question-kind-spec : {M : Type 1} → statement M
 question-kind-spec =

@@ -20,8 +20,10 @@ returns c =
 
 returns-2 : tie.Need-returns-2
 returns-2 c =
-    let a = c .before .before .before .before .args in
-    rest-none (a .frame .now) (a .line .now) (a .at) (a .kind) (a .numbers) (a .takes) (not-true _ (c .before .if1 .taken)) (c .if2 .left)
+    let c4 = c .before .before .before .before in
+    let a = c4 .args in
+    rest-none (a .frame .now) (a .line .now) (a .at) (a .kind) (a .numbers) (a .takes) (not-true _ (c .before .if1 .taken))
+    (c .if2 .left)
 
 no-call-requires-2 : tie.Need-no-call-requires-2
 no-call-requires-2 c κs = search needs
@@ -54,17 +56,26 @@ same-length c = search needs
 
 returns-4 : tie.Need-returns-4
 returns-4 c =
-    let a = c .before .before .before .before .before .before .before .before .before .before .before .before .args in
+    let c5 = c .before .before .before .before .before in
+    let c8 = c5 .before .before .before in
+    let c9 = c8 .before in
+    let c12 = c9 .before .before .before in
+    let a = c12 .args in
     rw (c .no-call3 .ensures)
-    (rest-bad (a .frame .now) (a .line .now) (a .at) (a .kind) (a .numbers) (a .takes) (not-false _ (c .before .before .before .before .before .before .before .before .before .if1 .left)) (c .before .before .before .before .before .before .before .before .if3 .left) _ _ (c .before .before .before .before .before .bytes-in .ensures .0) (c .before .before .before .before .before .bytes-in .ensures .1) (not-true _ (c .before .if4 .taken)))
+    (rest-bad (a .frame .now) (a .line .now) (a .at) (a .kind) (a .numbers) (a .takes) (not-false _ (c9 .if1 .left)) (c8 .if3 .left) _ _ (c5 .bytes-in .ensures .0) (c5 .bytes-in .ensures .1) (not-true _ (c .before .if4 .taken)))
 
 same-length-2 : tie.Need-same-length-2
 same-length-2 c = search needs
 
 returns-5 : tie.Need-returns-5
 returns-5 c =
-    let a = c .before .before .before .before .before .before .before .before .before .before .before .args in
-    rest-bytes (a .frame .now) (a .line .now) (a .at) (a .kind) (a .numbers) (a .takes) (not-false _ (c .before .before .before .before .before .before .before .before .if1 .left)) (c .before .before .before .before .before .before .before .if3 .left) _ _ (c .before .before .before .before .bytes-in .ensures .0) (c .before .before .before .before .bytes-in .ensures .1) (not-false _ (c .if4 .left))
+    let c4 = c .before .before .before .before in
+    let c7 = c4 .before .before .before in
+    let c8 = c7 .before in
+    let c11 = c8 .before .before .before in
+    let a = c11 .args in
+    rest-bytes (a .frame .now) (a .line .now) (a .at) (a .kind) (a .numbers) (a .takes) (not-false _ (c8 .if1 .left))
+    (c7 .if3 .left) _ _ (c4 .bytes-in .ensures .0) (c4 .bytes-in .ensures .1) (not-false _ (c .if4 .left))
 
 pub rest-spec : {M : Type 1} → statement M
 rest-spec =

@@ -30,8 +30,11 @@ is-same-requires c κs = search needs
 
 returns-3 : tie.Need-returns-3
 returns-3 c =
-    let a = c .before .before .before .before .before .before .before .args in
-    dash (a .frame .now) (a .word .now) (c .before .before .before .before .if1 .left) (c .before .before .before .if2 .left) (sym (c .before .is-same .ensures) ∙ c .if3 .taken)
+    let c4 = c .before .before .before .before in
+    let c7 = c4 .before .before .before in
+    let a = c7 .args in
+    dash (a .frame .now) (a .word .now) (c4 .if1 .left) (c .before .before .before .if2 .left)
+    (sym (c .before .is-same .ensures) ∙ c .if3 .taken)
 
 start-requires : tie.Need-start-requires
 start-requires c κs = search needs
@@ -44,11 +47,18 @@ same-length c = search needs
 
 returns-4 : tie.Need-returns-4
 returns-4 c =
-    let a = c .before .before .before .before .before .before .before .before .before .before .before .before .before .before .args in
-    let t = c .before .before .before .before .take-in .ensures in
-    with-newline (a .frame .now) (a .word .now) (c .before .before .before .before .before .before .before .before .before .before .before .if1 .left) (c .before .before .before .before .before .before .before .before .before .before .if2 .left)
-    (sym (c .before .before .before .before .before .before .before .before .is-same .ensures) ∙ c .before .before .before .before .before .before .before .if3 .left) _ _ (rw (c .before .before .before .before .before .before .start .ensures) at (t .0))
-    (rw (c .before .before .before .before .before .before .start .ensures) at (t .1)) (c .if4 .taken)
+    let c4 = c .before .before .before .before in
+    let c6 = c4 .before .before in
+    let c7 = c6 .before in
+    let c8 = c7 .before in
+    let c10 = c8 .before .before in
+    let c11 = c10 .before in
+    let c14 = c11 .before .before .before in
+    let a = c14 .args in
+    let t = c4 .take-in .ensures in
+    with-newline (a .frame .now) (a .word .now) (c11 .if1 .left) (c10 .if2 .left)
+    (sym (c8 .is-same .ensures) ∙ c7 .if3 .left) _ _ (rw (c6 .start .ensures) at (t .0))
+    (rw (c6 .start .ensures) at (t .1)) (c .if4 .taken)
 
 is-refused-requires : tie.Need-is-refused-requires
 is-refused-requires c κs = search needs
@@ -58,22 +68,36 @@ same-length-2 c = search needs
 
 returns-5 : tie.Need-returns-5
 returns-5 c =
-    let a = c .before .before .before .before .before .before .before .before .before .before .before .before .before .before .before .before .args in
-    let t = c .before .before .before .before .before .before .take-in .ensures in
-    bad-bytes (a .frame .now) (a .word .now) (c .before .before .before .before .before .before .before .before .before .before .before .before .before .if1 .left) (c .before .before .before .before .before .before .before .before .before .before .before .before .if2 .left)
-    (sym (c .before .before .before .before .before .before .before .before .before .before .is-same .ensures) ∙ c .before .before .before .before .before .before .before .before .before .if3 .left) _ _ (rw (c .before .before .before .before .before .before .before .before .start .ensures) at (t .0))
-    (rw (c .before .before .before .before .before .before .before .before .start .ensures) at (t .1)) (c .before .before .if4 .left) (sym (c .before .is-refused .ensures) ∙ c .if5 .taken)
+    let c6 = c .before .before .before .before .before .before in
+    let c8 = c6 .before .before in
+    let c9 = c8 .before in
+    let c10 = c9 .before in
+    let c12 = c10 .before .before in
+    let c13 = c12 .before in
+    let c16 = c13 .before .before .before in
+    let a = c16 .args in
+    let t = c6 .take-in .ensures in
+    bad-bytes (a .frame .now) (a .word .now) (c13 .if1 .left) (c12 .if2 .left)
+    (sym (c10 .is-same .ensures) ∙ c9 .if3 .left) _ _ (rw (c8 .start .ensures) at (t .0))
+    (rw (c8 .start .ensures) at (t .1)) (c .before .before .if4 .left) (sym (c .before .is-refused .ensures) ∙ c .if5 .taken)
 
 same-length-3 : tie.Need-same-length-3
 same-length-3 c = search needs
 
 returns-6 : tie.Need-returns-6
 returns-6 c =
-    let a = c .before .before .before .before .before .before .before .before .before .before .before .before .before .before .before .before .args in
-    let t = c .before .before .before .before .before .before .take-in .ensures in
-    good-bytes (a .frame .now) (a .word .now) (c .before .before .before .before .before .before .before .before .before .before .before .before .before .if1 .left) (c .before .before .before .before .before .before .before .before .before .before .before .before .if2 .left)
-    (sym (c .before .before .before .before .before .before .before .before .before .before .is-same .ensures) ∙ c .before .before .before .before .before .before .before .before .before .if3 .left) _ _ (rw (c .before .before .before .before .before .before .before .before .start .ensures) at (t .0))
-    (rw (c .before .before .before .before .before .before .before .before .start .ensures) at (t .1)) (c .before .before .if4 .left) (sym (c .before .is-refused .ensures) ∙ c .if5 .left)
+    let c6 = c .before .before .before .before .before .before in
+    let c8 = c6 .before .before in
+    let c9 = c8 .before in
+    let c10 = c9 .before in
+    let c12 = c10 .before .before in
+    let c13 = c12 .before in
+    let c16 = c13 .before .before .before in
+    let a = c16 .args in
+    let t = c6 .take-in .ensures in
+    good-bytes (a .frame .now) (a .word .now) (c13 .if1 .left) (c12 .if2 .left)
+    (sym (c10 .is-same .ensures) ∙ c9 .if3 .left) _ _ (rw (c8 .start .ensures) at (t .0))
+    (rw (c8 .start .ensures) at (t .1)) (c .before .before .if4 .left) (sym (c .before .is-refused .ensures) ∙ c .if5 .left)
 
 pub bytes-in-spec : {M : Type 1} → statement M
 bytes-in-spec =

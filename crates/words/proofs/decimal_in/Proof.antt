@@ -39,10 +39,16 @@ wide-requires : tie.Need-wide-requires Inv-loop μ-loop
 wide-requires c κs = search needs
 
 returns-2 : tie.Need-returns-2 Inv-loop μ-loop
-returns-2 c = counted-below (c .before .before .before .before .loop .inv) (c .before .before .before .loop-test .taken) _ (c .before .wide .ensures .0) (c .if2 .taken)
+returns-2 c =
+    let c4 = c .before .before .before .before in
+    counted-below (c4 .loop .inv) (c .before .before .before .loop-test .taken) _ (c .before .wide .ensures .0) (c .if2 .taken)
 
 returns-3 : tie.Need-returns-3 Inv-loop μ-loop
-returns-3 c = counted-above (c .before .before .before .before .before .loop .inv) (c .before .before .before .before .loop-test .taken) _ (c .before .before .wide .ensures .0) (c .before .if2 .left) (c .if3 .taken)
+returns-3 c =
+    let c4 = c .before .before .before .before in
+    let c5 = c4 .before in
+    counted-above (c5 .loop .inv) (c4 .loop-test .taken) _ (c .before .before .wide .ensures .0) (c .before .if2 .left)
+    (c .if3 .taken)
 
 mul-value : tie.Need-mul-value Inv-loop μ-loop
 mul-value c = omega (arith, c .before .before .before .before .before .loop .inv .low)
@@ -51,7 +57,10 @@ add-value : tie.Need-add-value Inv-loop μ-loop
 add-value c = omega (arith, c .before .before .before .before .before .loop .inv .low)
 
 returns-4 : tie.Need-returns-4 Inv-loop μ-loop
-returns-4 c = counted-large (c .before .before .before .before .before .before .loop .inv) (c .before .before .before .before .before .loop-test .taken) _ (c .before .before .before .wide .ensures .0) (c .if4 .taken)
+returns-4 c =
+    let c5 = c .before .before .before .before .before in
+    let c6 = c5 .before in
+    counted-large (c6 .loop .inv) (c5 .loop-test .taken) _ (c .before .before .before .wide .ensures .0) (c .if4 .taken)
 
 add-i : tie.Need-add-i Inv-loop μ-loop
 add-i c = omega arith
@@ -60,7 +69,11 @@ loop-less : tie.Need-loop-less Inv-loop μ-loop
 loop-less c = omega arith
 
 loop-again : tie.Need-loop-again Inv-loop μ-loop
-loop-again c = counted-turn (c .before .before .before .before .before .before .loop .inv) (c .before .before .before .before .before .loop-test .taken) _ (c .before .before .before .wide .ensures .0) (c .before .before .if2 .left) (c .before .if3 .left) (c .if4 .left)
+loop-again c =
+    let c5 = c .before .before .before .before .before in
+    let c6 = c5 .before in
+    counted-turn (c6 .loop .inv) (c5 .loop-test .taken) _ (c .before .before .before .wide .ensures .0)
+    (c .before .before .if2 .left) (c .before .if3 .left) (c .if4 .left)
 
 cast-t14 : tie.Need-cast-t14 Inv-loop μ-loop
 cast-t14 c = omega (arith, c .before .loop .inv .low)

@@ -47,7 +47,10 @@ loop-less : tie.Need-loop-less Inv-loop μ-loop
 loop-less c = omega arith
 
 loop-again : tie.Need-loop-again Inv-loop μ-loop
-loop-again c = gathers-turn (c .before .before .before .before .loop .inv) _ _ (c .before .before .before .loop-test .taken) (c .before .if1 .left) (λ (cs : List ℕ). kept-full _ _ cs _ (c .if2 .taken)) refl
+loop-again c =
+    let c4 = c .before .before .before .before in
+    gathers-turn (c4 .loop .inv) _ _ (c .before .before .before .loop-test .taken) (c .before .if1 .left)
+    (λ (cs : List ℕ). kept-full _ _ cs _ (c .if2 .taken)) refl
 
 keep-requires : tie.Need-keep-requires Inv-loop μ-loop
 keep-requires c κs = search needs
@@ -60,8 +63,10 @@ loop-less-2 c = omega arith
 
 loop-again-2 : tie.Need-loop-again-2 Inv-loop μ-loop
 loop-again-2 c =
-    let s = c .before .before .before .before in
-    gathers-kept (s .before .before .before .before .loop .inv) _ (c .before .before .keep .ensures) (s .before .before .before .loop-test .taken) (s .before .if1 .left)
+    let c4 = c .before .before .before .before in
+    let s = c4 in
+    gathers-kept (s .before .before .before .before .loop .inv) _ (c .before .before .keep .ensures)
+    (s .before .before .before .loop-test .taken) (s .before .if1 .left)
     (s .if2 .left)
 
 same-length-2 : tie.Need-same-length-2 Inv-loop μ-loop

@@ -29,7 +29,9 @@ shared-slice-read-if2-2 : tie.Need-shared-slice-read-if2-2 Inv-loop μ-loop
 shared-slice-read-if2-2 c = omega (arith, c .before .before .before .loop .inv .size)
 
 returns-2 : tie.Need-returns-2 Inv-loop μ-loop
-returns-2 c = same-differs (c .before .before .before .before .loop .inv) (c .before .before .before .loop-test .taken) (c .if2 .taken)
+returns-2 c =
+    let c4 = c .before .before .before .before in
+    same-differs (c4 .loop .inv) (c .before .before .before .loop-test .taken) (c .if2 .taken)
 
 add-i : tie.Need-add-i Inv-loop μ-loop
 add-i c = omega arith
