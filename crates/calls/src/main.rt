@@ -275,7 +275,7 @@ fn put_ack(out: &mut [u8], at: usize, pair: Pair, answer: Answer) -> usize {
 fn call_receive(ends: Ends, frame: &[u8], memory: &mut [u8], out: &mut [u8], at: usize) -> Done {
     let before = ends.pair;
     let card = ends.card;
-    let step = host::receive(before, frame, memory);
+    let step = reception::receive(before, frame, memory);
     let pair = step.pair;
     let answer = step.answer;
     let end = report::put_answer(out, at, answer);

@@ -39,7 +39,7 @@ pub extern "C" fn lw_host_run(frames: &[u8], size: usize, memory: &mut [u8]) -> 
         let at = k * size;
         let end = at + size;
         let pair = step.pair;
-        step = host::receive(pair, &frames[at..end], memory);
+        step = reception::receive(pair, &frames[at..end], memory);
         let answer = step.answer;
         bytes = std::num::wrapping_add_u64(bytes, bytes_of(answer));
         k += 1;

@@ -23,7 +23,7 @@ ghost use Rattle.reader.specs.Layout.{
 };
 
 // Frames longer than this are refused.
-const FRAME_MOST: usize = 9000;
+pub const FRAME_MOST: usize = 9000;
 
 // A frame as a whole: the refusal's number; or its messages and their data bytes.
 pub enum Layout {

@@ -12,7 +12,7 @@ use Rattle.host_run.proofs.lw_host_run.Tie as tie
 use Rattle.host_run.proofs.lw_host_run.Reads as reads
 use Rattle.host_run.proofs.lw_host_run.Lts as lts
 use Rattle.host.proofs.open_pair.Reads as open-pair-reads
-use Rattle.host.proofs.receive.Reads as receive-reads
+use Rattle.reception.proofs.receive.Reads as receive-reads
 use Rattle.host_run.proofs.bytes_of.Reads as bytes-of-reads
 use Rattle.std.proofs.num.wrapping_add_u64.Reads as wrapping-add-u64-reads
 

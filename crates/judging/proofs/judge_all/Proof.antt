@@ -1,0 +1,249 @@
+-- `judging::judge_all` judges message by message, as the definition does.
+-- Assumes nothing.
+use mathlib.Core.Path.{_≡_, refl, sym, ap, _∙_}
+use Prim.Native.Nat.{_+_, _-_}
+use native.Mathlib.Omega.{arith}
+use borrow.Author.Needs.{needs}
+use borrow.Author.Tests.{not-true, not-false}
+use lib.ListN.{length}
+use Rattle.transactions.specs.declared.Verdict.{Verdict}
+use Rattle.reader.proofs.Reading.{is-whole}
+use Rattle.judging.proofs.Judging.{
+  judged-long,
+  Judging,
+  judging-start,
+  judging-past,
+  judging-stops,
+  judging-ends,
+  judging-on,
+  Steady,
+  steady-start,
+  steady-set,
+  verdict-is,
+  judged-on,
+}
+use Rattle.judging.proofs.judge_all.Statement.{statement}
+use Rattle.judging.proofs.judge_all.Tie as tie
+use Rattle.judging.proofs.judge_all.Reads as reads
+use Rattle.judging.proofs.judge_all.Lts as lts
+use Rattle.judging.proofs.noted.Reads as noted-reads
+use Rattle.judging.proofs.one_if.Reads as one-if-reads
+use Rattle.judging.proofs.passed.Reads as passed-reads
+use Rattle.judging.proofs.place_of.Reads as place-of-reads
+use Rattle.judging.proofs.refused_at.Reads as refused-at-reads
+use Rattle.reader.proofs.message_at.Reads as message-at-reads
+use Rattle.transactions.proofs.judge.Reads as judge-reads
+
+abbrev Inv-loop : tie.InvT-loop
+Inv-loop shut f size lowest₀ closed₀ table₀ due₀ messages₀ bytes₀ completed₀ at₀ lowest closed table due messages bytes completed
+    at =
+    Steady f at messages bytes completed table due
+    × Judging f size (record { lowest = lowest₀ .0; closed = closed₀; table = table₀ }) at
+    (record {
+      refusal = 0;
+      messages = messages;
+      bytes = bytes;
+      completed = completed;
+      lowest = lowest;
+      closed = closed;
+      table = table;
+      due = due;
+    })
+
+abbrev μ-loop : tie.MeasureT-loop
+μ-loop shut f size lowest₀ closed₀ table₀ due₀ messages₀ bytes₀ completed₀ at₀ lowest closed table due messages bytes completed
+    at =
+    length f + 18 - at
+
+refused-at-requires : tie.Need-refused-at-requires Inv-loop μ-loop
+refused-at-requires c κs = search needs
+
+returns : tie.Need-returns Inv-loop μ-loop
+returns c =
+    let a = c .before .before .before .args in
+    c .refused-at .ensures ∙ judged-long (a .f .now) _ (a .size) (c .before .if1 .taken)
+
+loop-holds : tie.Need-loop-holds Inv-loop μ-loop
+loop-holds c =
+    let s = c .before .before in
+    let a = s .args in
+    let l : length (a .places) ≡ 32 = s .good .1 .1 .0 .1 .0 .1 in
+    (steady-start (a .f .now) (a .places) _ (c .if1 .left) l refl, judging-start (a .f .now) (a .size) _ (c .if1 .left))
+
+message-at-requires : tie.Need-message-at-requires Inv-loop μ-loop
+message-at-requires c κs = search needs
+
+enum-told : tie.Need-enum-told Inv-loop μ-loop
+enum-told c = search needs
+
+refused-at-requires-2 : tie.Need-refused-at-requires-2 Inv-loop μ-loop
+refused-at-requires-2 c κs = search needs
+
+returns-2 : tie.Need-returns-2 Inv-loop μ-loop
+returns-2 c =
+    c .refused-at2 .ensures
+    ∙ judging-past (c .before .before .before .before .loop .inv .1)
+    (sym (c .before .before .before .message-at .ensures) ∙ c .before .enum-told .given .1)
+
+enum-known-found : tie.Need-enum-known-found Inv-loop μ-loop
+enum-known-found c = search needs
+
+place-of-requires : tie.Need-place-of-requires Inv-loop μ-loop
+place-of-requires c κs = search needs
+
+mul-judge : tie.Need-mul-judge Inv-loop μ-loop
+mul-judge c = omega (arith, c .place-of .ensures .1)
+
+array-copy-out-judge : tie.Need-array-copy-out-judge Inv-loop μ-loop
+array-copy-out-judge c = omega (arith, c .place-of .ensures .1, c .before .before .before .before .before .loop .inv .0)
+
+judge-requires : tie.Need-judge-requires Inv-loop μ-loop
+judge-requires c κs = search needs
+
+refused-at-requires-3 : tie.Need-refused-at-requires-3 Inv-loop μ-loop
+refused-at-requires-3 c κs = search needs
+
+returns-3 : tie.Need-returns-3 Inv-loop μ-loop
+returns-3 c =
+    let placed = c .before .before .before .before .before in
+    let w =
+    is-whole (sym (placed .before .before .before .before .message-at .ensures)
+    ∙ placed .before .before .found .given .1) in
+    let p = placed .place-of .ensures .0 in
+    let v = c .before .before .before .judge .ensures ∙ verdict-is w _ _ _ p in
+    c .refused-at3 .ensures
+    ∙ judging-stops (placed .before .before .before .before .before .loop .inv .1) w _
+    (ap (λ (v : Verdict). v .refusal) v) (c .before .if2 .taken)
+
+mul-table : tie.Need-mul-table Inv-loop μ-loop
+mul-table c = omega (arith, c .before .before .before .before .before .before .place-of .ensures .1)
+
+array-set-from-table : tie.Need-array-set-from-table Inv-loop μ-loop
+array-set-from-table c =
+    let placed = c .before .before .before .before .before .before in
+    omega (arith, placed .place-of .ensures .1, placed .before .before .before .before .before .loop .inv .0)
+
+cast-w : tie.Need-cast-w Inv-loop μ-loop
+cast-w c = omega arith
+
+mul-noted : tie.Need-mul-noted Inv-loop μ-loop
+mul-noted c =
+    omega (arith, c .before .before .before .before .before .before .before .before .before .before .before .loop .inv .0)
+
+array-read-noted : tie.Need-array-read-noted Inv-loop μ-loop
+array-read-noted c =
+    omega (arith, c .before .before .before .before .before .before .before .before .before .before .before .loop .inv .0)
+
+noted-requires : tie.Need-noted-requires Inv-loop μ-loop
+noted-requires c κs = search needs
+
+mul-due : tie.Need-mul-due Inv-loop μ-loop
+mul-due c =
+    omega (arith, c .before .before .before .before .before .before .before .before .before .before .before .before .loop .inv .0)
+
+array-write-due : tie.Need-array-write-due Inv-loop μ-loop
+array-write-due c =
+    omega (arith, c .before .before .before .before .before .before .before .before .before .before .before .before .loop .inv .0)
+
+add-messages : tie.Need-add-messages Inv-loop μ-loop
+add-messages c =
+    omega (arith, c .before .before .before .before .before .before .before .before .before .before .before .before .loop .inv .0)
+
+cast-bytes : tie.Need-cast-bytes Inv-loop μ-loop
+cast-bytes c = search needs
+
+add-bytes : tie.Need-add-bytes Inv-loop μ-loop
+add-bytes c =
+    let placed = c .before .before .before .before .before .before .before in
+    let w =
+    is-whole (sym (placed .before .before .before .before .message-at .ensures)
+    ∙ placed .before .before .found .given .1) in
+    omega (arith, placed .before .before .before .before .before .loop .inv .0, w)
+
+one-if-requires : tie.Need-one-if-requires Inv-loop μ-loop
+one-if-requires c κs = search needs
+
+add-completed : tie.Need-add-completed Inv-loop μ-loop
+add-completed c =
+    omega (
+      arith,
+      c .before .before .before .before .before .before .before .before .before .before .before .before .before .loop .inv .0,
+      c .one-if .ensures .1,
+    )
+
+passed-requires : tie.Need-passed-requires Inv-loop μ-loop
+passed-requires c κs = search needs
+
+returns-4 : tie.Need-returns-4 Inv-loop μ-loop
+returns-4 c =
+    let placed = c .before .before .before .before .before .before .before .before .before .before in
+    let k = placed .before .before .before .before .before .loop in
+    let w =
+    is-whole (sym (placed .before .before .before .before .message-at .ensures)
+    ∙ placed .before .before .found .given .1) in
+    let p = placed .place-of .ensures .0 in
+    let v = c .before .before .before .before .before .before .before .before .judge .ensures ∙ verdict-is w _ _ _ p in
+    let ok = sym (ap (λ (v : Verdict). v .refusal) v) ∙ c .before .before .before .before .before .before .if2 .left in
+    let on = judged-on w _ _ _ _ _ _ v p (c .before .before .before .noted .ensures) (c .before .before .one-if .ensures .0) in
+    c .passed .ensures ∙ judging-ends (k .inv .1) w ok _ on (not-true _ (c .before .if3 .taken))
+
+loop-less : tie.Need-loop-less Inv-loop μ-loop
+loop-less c =
+    let placed = c .before .before .before .before .before .before .before .before .before in
+    let w =
+    is-whole (sym (placed .before .before .before .before .message-at .ensures)
+    ∙ placed .before .before .found .given .1) in
+    omega (arith, placed .before .before .before .before .before .loop .inv .0, w)
+
+loop-again : tie.Need-loop-again Inv-loop μ-loop
+loop-again c =
+    let placed = c .before .before .before .before .before .before .before .before .before in
+    let k = placed .before .before .before .before .before .loop in
+    let w =
+    is-whole (sym (placed .before .before .before .before .message-at .ensures)
+    ∙ placed .before .before .found .given .1) in
+    let p = placed .place-of .ensures .0 in
+    let v = c .before .before .before .before .before .before .before .judge .ensures ∙ verdict-is w _ _ _ p in
+    let ok = sym (ap (λ (v : Verdict). v .refusal) v) ∙ c .before .before .before .before .before .if2 .left in
+    let on = judged-on w _ _ _ _ _ _ v p (c .before .before .noted .ensures) (c .before .one-if .ensures .0) in (
+      steady-set (k .inv .0) w _ _ _ _ (c .before .one-if .ensures .1),
+      judging-on (k .inv .1) w ok _ on (not-false _ (c .if3 .left)),
+    )
+
+pub judge-all-spec : {M : Type 1} → statement M
+judge-all-spec =
+    tie.close
+    (tie.spec
+    Inv-loop
+    μ-loop
+    refused-at-requires
+    returns
+    loop-holds
+    message-at-requires
+    enum-told
+    refused-at-requires-2
+    returns-2
+    enum-known-found
+    place-of-requires
+    mul-judge
+    array-copy-out-judge
+    judge-requires
+    refused-at-requires-3
+    returns-3
+    mul-table
+    array-set-from-table
+    cast-w
+    mul-noted
+    array-read-noted
+    noted-requires
+    mul-due
+    array-write-due
+    add-messages
+    cast-bytes
+    add-bytes
+    one-if-requires
+    add-completed
+    passed-requires
+    returns-4
+    loop-less
+    loop-again)

@@ -1,0 +1,203 @@
+-- What receiving a frame whose header is in order comes to, case by case.
+-- Assumes nothing.
+use mathlib.Core.Path.{_≡_, refl, sym, ap, _∙_}
+use mathlib.Core.Logic.{_≢_}
+use mathlib.Core.Bool.{true, false, cond}
+use mathlib.Core.List.{List}
+use mathlib.Core.Option.{Option, none, some}
+use Prim.Native.Nat.{ℕ, _+_, _≤_, _<_}
+use native.Mathlib.Nat.{zero-add}
+use native.Mathlib.Omega.{arith}
+use lib.Dec.{eqb}
+use lib.ListN.{length, replicate}
+use Rattle.marks.specs.Marks.{mark}
+use Rattle.wire.specs.Format.{Message}
+use Rattle.wire.specs.Reading.{addressed, refusalOf, messagesFrom, orPassesEnd}
+use Rattle.wire.proofs.Reading.{read-messages}
+use Rattle.host.specs.declared.Pair.{Pair}
+use Rattle.host.specs.declared.Answer.{Answer}
+use Rattle.host.specs.declared.Answer.the-variants.{Accepted, Again}
+use Rattle.host.specs.Host.{
+  Received,
+  unchanged,
+  refused,
+  accepting,
+  concluded,
+  transactionsOf,
+  tallyOf,
+  takeAll,
+  numbered,
+  receiveOf,
+  steppedOf,
+}
+use Rattle.host.proofs.Receiving.{
+  reading,
+  received-refused,
+  received-bad,
+  received-good,
+  numbered-behind,
+  numbered-ahead,
+  numbered-again,
+  numbered-new,
+}
+use Rattle.judging.specs.declared.Judged.{Judged}
+use Rattle.judging.specs.declared.Closing.{Closing}
+use Rattle.judging.specs.Judging.{noneJudged, leftBy, judgedFrom, judgedOf, closingOf}
+use Rattle.judging.proofs.Judging.{judged-short, closing-short}
+use Rattle.depositing.specs.Depositing.{dueAt, writtenFrom, writtenOf}
+use Rattle.depositing.proofs.Depositing.{written-short, written-alike}
+use Rattle.reception.specs.Reception.{Awaited, acceptedPair, refusedWith}
+use Rattle.reception.proofs.Dues.{none-noted, allDue, all-noted}
+use Rattle.reception.proofs.Passes.{
+  tallyBy,
+  noting-start,
+  taken-all,
+  not-taken-all,
+  judged-cut,
+  judgedBy,
+  Closed,
+  closed-all,
+}
+
+-- ---- a frame with messages whose header is in order
+
+module _ (p : Pair) (f memory : List ℕ) (num d : ℕ) (w : Awaited p f num d) where
+  awaited-read : reading p f memory ≡ orPassesEnd (messagesFrom (length f) f 10)
+  awaited-read = read-messages (addressed (p .own) (p .peer) f) f (w .least) (w .most) (w .mine) (w .flag)
+
+  -- its layout is bad
+  awaited-cut : messagesFrom (length f) f 10 ≡ none
+      → (refusalOf (reading p f memory) ≡ 5) × (receiveOf p f memory ≡ unchanged p memory (refused 5 0))
+  awaited-cut e =
+      let q = awaited-read ∙ ap orPassesEnd e in
+      (ap refusalOf q, received-bad p f memory 5 q)
+
+  -- it has messages
+  awaited-some : (ms : List Message) → messagesFrom (length f) f 10 ≡ some ms
+      → (refusalOf (reading p f memory) ≡ 0) × (receiveOf p f memory ≡ numbered p memory num ms)
+  awaited-some ms e =
+      let q = awaited-read ∙ ap orPassesEnd e in (
+        ap refusalOf q,
+        received-good p f memory ms q (λ z. omega (arith, z, w .flag)) ∙ ap (λ (n : ℕ). numbered p memory n ms) (sym (w .num-is)),
+      )
+
+  -- an old number: the layout's refusal, or by where the number lies
+  pub old-cut : (r : ℕ) → r ≡ refusalOf (reading p f memory) → r ≢ 0 → receiveOf p f memory ≡ unchanged p memory (refused r 0)
+  old-cut r e ne = received-refused p f memory r e ne
+
+  abbrev pub Answered : Answer → Type 0
+  Answered a = receiveOf p f memory ≡ unchanged p memory a
+
+  by-messages : (a : Answer) → refusalOf (reading p f memory) ≡ 0
+      → ((ms : List Message) → numbered p memory num ms ≡ unchanged p memory a) → Answered a
+  by-messages a z g = go (messagesFrom (length f) f 10) refl
+    where
+      go : (r : Option (List Message)) → messagesFrom (length f) f 10 ≡ r → Answered a
+      go none e = absurd (omega (arith, awaited-cut e .0))
+      go (some ms) e = awaited-some ms e .1 ∙ g ms
+
+  pub old-behind : refusalOf (reading p f memory) ≡ 0 → 32768 ≤ d → Answered (Again (record { 0 = num }))
+  old-behind z h = by-messages _ z (λ ms. numbered-behind p memory num d ms (w .d-is) h)
+
+  pub old-ahead : refusalOf (reading p f memory) ≡ 0 → 64 ≤ d → d < 32768 → Answered (refused 6 0)
+  old-ahead z h k = by-messages _ z (λ ms. numbered-ahead p memory num d ms (w .d-is) h k)
+
+  pub old-again : refusalOf (reading p f memory) ≡ 0 → d < 64 → mark (p .marks) d ≡ true → Answered (Again (record { 0 = num }))
+  old-again z h m = by-messages _ z (λ ms. numbered-again p memory num d ms (w .d-is) h m)
+
+  -- a new number: its messages taken in, or refused
+  module _ (new : d < 64) (clear : mark (p .marks) d ≡ false) where
+    abbrev start : Judged
+    start = noneJudged (transactionsOf p)
+
+    abbrev found : Judged
+    found = judgedFrom (length f) f (length memory) 10 start
+
+    found-is : judgedOf f (transactionsOf p) (length memory) ≡ found
+    found-is = judged-short f (transactionsOf p) (length memory) (w .most)
+
+    -- both passes, where the messages are these
+    received-new : (ms : List Message) → messagesFrom (length f) f 10 ≡ some ms
+        → receiveOf p f memory ≡ concluded p memory num (takeAll (tallyOf p memory) 0 ms)
+    received-new ms e = awaited-some ms e .1 ∙ numbered-new p memory num d ms (w .d-is) new clear
+
+    refused-new : (ms : List Message) → messagesFrom (length f) f 10 ≡ some ms → found .refusal ≢ 0
+        → receiveOf p f memory ≡ unchanged p memory (refused (found .refusal) (found .messages))
+    refused-new ms e ne =
+        received-new ms e
+        ∙ ap (concluded p memory num) (not-taken-all f (length memory) (length f) 10 start memory ms refl e ne)
+
+    abbrev pub effected : Judged → List ℕ → Received
+    effected j due = record {
+      pair = acceptedPair p num (leftBy j);
+      memory = writtenOf f due (j .messages) memory;
+      answer = Accepted (record { 0 = num })
+          (record { messages = j .messages; bytes = j .bytes; completed = j .completed });
+    }
+
+    taken-new : (ms : List Message) → messagesFrom (length f) f 10 ≡ some ms → found .refusal ≡ 0
+        → receiveOf p f memory ≡ effected found (found .due)
+    unfolding accepting
+    taken-new ms e ok =
+        let t = taken-all f (length memory) (length f) 10 start memory ms refl (noting-start f (transactionsOf p) (w .most)) e ok in
+        let n : length ms ≡ found .messages = sym (t .counted ∙ zero-add (length ms)) in
+        let wrote : writtenFrom (length ms) f 10 (found .due) 0 memory ≡ writtenOf f (found .due) (found .messages) memory =
+        ap (λ (k : ℕ). writtenFrom k f 10 (found .due) 0 memory) n
+        ∙ sym (written-short f (found .due) (found .messages) memory (w .most)) in
+        received-new ms e ∙ ap (concluded p memory num) (t .is)
+        ∙ ap (λ (mem : List ℕ). accepting p num (tallyBy found mem)) wrote
+
+    module _ (j : Judged) (right : j ≡ judgedOf f (transactionsOf p) (length memory)) where
+      j-is : j ≡ found
+      j-is = right ∙ found-is
+
+      pub new-refused : j .refusal ≢ 0 → refusedWith p f (j .refusal) (j .messages) ≡ steppedOf (receiveOf p f memory)
+      unfolding refusedWith
+      new-refused ne = rw j-is (go (messagesFrom (length f) f 10) refl)
+        where
+          go : (r : Option (List Message)) → messagesFrom (length f) f 10 ≡ r
+              → refusedWith p f (found .refusal) (found .messages) ≡ steppedOf (receiveOf p f memory)
+          go none e =
+              let c = awaited-cut e in
+              rw (c .0) (sym (ap steppedOf (c .1)))
+          go (some ms) e = rw (awaited-some ms e .0) (sym (ap steppedOf (refused-new ms e (rw j-is at ne))))
+
+      pub new-unchanged : j .refusal ≢ 0 → memory ≡ receiveOf p f memory .memory
+      new-unchanged ne = go (messagesFrom (length f) f 10) refl
+        where
+          go : (r : Option (List Message)) → messagesFrom (length f) f 10 ≡ r → memory ≡ receiveOf p f memory .memory
+          go none e = sym (ap (λ (r : Received). r .memory) (awaited-cut e .1))
+          go (some ms) e = sym (ap (λ (r : Received). r .memory) (refused-new ms e (rw j-is at ne)))
+
+      pub new-taken : j .refusal ≡ 0 → receiveOf p f memory ≡ effected j (j .due)
+      new-taken ok = rw j-is (go (messagesFrom (length f) f 10) refl)
+        where
+          go : (r : Option (List Message)) → messagesFrom (length f) f 10 ≡ r → receiveOf p f memory ≡ effected found (found .due)
+          go none e = absurd (judged-cut f (length memory) (length f) 10 start e (rw j-is at ok))
+          go (some ms) e = taken-new ms e (rw j-is at ok)
+
+    -- every message closes its transaction: the marks of all stand for theirs
+    closed-found : (c : Closing) → c ≡ closingOf f (transactionsOf p) (length memory) → c .messages ≢ 0
+        → Closed (p .table) c found
+    closed-found c right ne =
+        let is = right ∙ closing-short f (transactionsOf p) (length memory) (w .most) in
+        rw is (closed-all f (length memory) (length f) (p .table) 10 _ (replicate 6 0)
+        (noting-start f (transactionsOf p) (w .most)) (λ i l. absurd (omega (arith, l)))
+        (λ z. ne (ap (λ (r : Closing). r .messages) is ∙ z)))
+
+    pub new-closed : (c : Closing) → c ≡ closingOf f (transactionsOf p) (length memory) → c .messages ≢ 0
+        → receiveOf p f memory ≡ effected (judgedBy c (p .table) allDue) allDue
+    new-closed c right ne =
+        let k = closed-found c right ne in
+        let alike = written-alike f (k .due) allDue (c .messages) 10 0 memory
+        (λ i l m. k .all-due i (omega (arith, m)) ∙ sym (all-noted i (omega (arith, m, k .few)))) in
+        new-taken found (sym found-is) (ap (λ (r : Judged). r .refusal) (k .is))
+        ∙ ap (λ (r : Judged). effected r (r .due)) (k .is)
+        ∙ ap (λ (mem : List ℕ). record {
+          pair = acceptedPair p num (record { lowest = c .lowest .0; closed = c .closed; table = p .table });
+          memory = mem;
+          answer = Accepted (record { 0 = num })
+              (record { messages = c .messages; bytes = c .bytes; completed = c .messages });
+        })
+        (written-short f (k .due) (c .messages) memory (w .most) ∙ alike
+        ∙ sym (written-short f allDue (c .messages) memory (w .most)))
