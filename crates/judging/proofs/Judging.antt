@@ -142,7 +142,23 @@ module _ (f : List ℕ) (size : ℕ) (table : List Open) (at : ℕ) (c : Closing
     unfolding closingFrom
     closing-more y z = rw (le-leb (dataEnd f at) (length f) inside, y, z)
 
--- ---- where the walks stand: what is left to do from here is the whole; `turns` are enough for it
+-- ---- the header and the length that were read are the message's
+
+module _ {f : List ℕ} {at : ℕ} {h : MessageHeader} {len : ℕ} {more : Bool} {next : ℕ} (w : IsWhole f at h len more next) where
+  head-is : h ≡ headOf (messageAt f at)
+  unfolding headOf messageAt headAt
+  head-is = w .header-is
+
+  place-is : (s : ℕ) → s ≡ h .trans .0 % 32 → s ≡ messageAt f at .trans % 32
+  unfolding headOf
+  place-is s e = e ∙ ap (λ (h : MessageHeader). h .trans .0 % 32) head-is
+
+  verdict-is : (t : Transactions) (size s : ℕ) → s ≡ h .trans .0 % 32
+      → verdictOf (t .lowest) (t .closed) (getD (t .table) s free) h len size ≡ verdict t size (messageAt f at)
+  unfolding verdict headOf
+  verdict-is t size s s-is = rw (s-is, head-is, ← w .bytes-are)
+
+-- ---- where the walk over any frame stands: what is left to do from here is the whole; `turns` are enough for it
 
 pub record Judging (f : List ℕ) (size : ℕ) (t : Transactions) (at : ℕ) (j : Judged) : Type 0 where
   pub turns : ℕ
@@ -152,41 +168,73 @@ pub record Judging (f : List ℕ) (size : ℕ) (t : Transactions) (at : ℕ) (j 
 pub judging-start : (f : List ℕ) (size : ℕ) (t : Transactions) → length f ≤ frameMost → Judging f size t 10 (noneJudged t)
 judging-start f size t h = record { turns = length f; enough = omega arith; is = judged-short f t size h }
 
-module _ {f : List ℕ} {size : ℕ} {t : Transactions} {at : ℕ} {j : Judged} (g : Judging f size t at j) where
-  pub judging-past : foundAt f at ≡ PastEnd → refusedAt 5 (j .messages) ≡ judgedOf f t size
-  judging-past e = sym (g .is ∙ judged-past f size at j (g .turns) (is-past f at e))
+pub judging-past : {f : List ℕ} {size : ℕ} {t : Transactions} {at : ℕ} {j : Judged} → Judging f size t at j
+    → foundAt f at ≡ PastEnd → refusedAt 5 (j .messages) ≡ judgedOf f t size
+judging-past {f} {size} {t} {at} {j} g e = sym (g .is ∙ judged-past f size at j (g .turns) (is-past f at e))
 
-  module _ {h : MessageHeader} {len : ℕ} {more : Bool} {next : ℕ} (w : IsWhole f at h len more next) where
-    turn-left : (n : ℕ) × (g .turns ≡ suc n)
-    turn-left = go (g .turns) refl
-      where
-        go : (n : ℕ) → g .turns ≡ n → (n : ℕ) × (g .turns ≡ suc n)
-        go zero q = absurd (omega (arith, w .inside-frame, g .enough))
-        go (suc n) q = (n, q)
+-- a message was found, and judged as code does it
+module _ {f : List ℕ} {size : ℕ} {t : Transactions} {at : ℕ} {j : Judged} {h : MessageHeader} {len : ℕ} {more : Bool} {next : ℕ}
+    {v : Verdict} {s : ℕ} (g : Judging f size t at j) (w : IsWhole f at h len more next)
+    (v-is : v ≡ verdictOf (j .lowest .0) (j .closed) (getD (j .table) s free) h len size) (s-is : s ≡ h .trans .0 % 32) where
+  turn-left : (n : ℕ) × (g .turns ≡ suc n)
+  turn-left = go (g .turns) refl
+    where
+      go : (n : ℕ) → g .turns ≡ n → (n : ℕ) × (g .turns ≡ suc n)
+      go zero q = absurd (omega (arith, w .inside-frame, g .enough))
+      go (suc n) q = (n, q)
 
-    one-turn : judgedOf f t size ≡ judgedFrom (suc (turn-left .0)) f size at j
-    one-turn = g .is ∙ ap (λ (k : ℕ). judgedFrom k f size at j) (turn-left .1)
+  one-turn : judgedOf f t size ≡ judgedFrom (suc (turn-left .0)) f size at j
+  one-turn = g .is ∙ ap (λ (k : ℕ). judgedFrom k f size at j) (turn-left .1)
 
-    pub judging-stops : (r : ℕ) → r ≡ its-verdict f size at j .refusal → r ≢ 0 → refusedAt r (j .messages) ≡ judgedOf f t size
-    judging-stops r e ne =
-        ap (λ (n : ℕ). refusedAt n (j .messages)) e
-        ∙ sym (one-turn ∙ judged-stops f size at j (turn-left .0) (w .inside-frame) (λ z. ne (e ∙ z)))
+  is-its : v ≡ its-verdict f size at j
+  is-its = v-is ∙ verdict-is w (leftBy j) size s s-is
 
-    module _ (ok : its-verdict f size at j .refusal ≡ 0) (j′ : Judged)
-        (on : j′ ≡ judgedOn j (messageAt f at) (its-verdict f size at j)) where
-      pub judging-ends : more ≡ false → j′ ≡ judgedOf f t size
-      judging-ends z =
-          on ∙ sym (one-turn ∙ judged-last f size at j (turn-left .0) (w .inside-frame) ok (sym (w .more-is) ∙ z))
+  refusal-is : v .refusal ≡ its-verdict f size at j .refusal
+  refusal-is = ap (λ (v : Verdict). v .refusal) is-its
 
-      pub judging-on : more ≡ true → Judging f size t next j′
-      judging-on z =
-          record {
-            turns = turn-left .0;
-            enough = omega (arith, g .enough, w .next-beyond, turn-left .1);
-            is =
-                one-turn ∙ judged-more f size at j (turn-left .0) (w .inside-frame) ok (sym (w .more-is) ∙ z)
-                ∙ rw (← on, ← w .next-is);
-          }
+  pub judging-stops : v .refusal ≢ 0 → refusedAt (v .refusal) (j .messages) ≡ judgedOf f t size
+  judging-stops ne =
+      ap (λ (n : ℕ). refusedAt n (j .messages)) refusal-is
+      ∙ sym (one-turn ∙ judged-stops f size at j (turn-left .0) (w .inside-frame) (λ z. ne (refusal-is ∙ z)))
+
+  -- it is not refused: the sums and the state after it
+  module _ {word one : ℕ} (ok : v .refusal ≡ 0)
+      (word-is : word ≡ notedWord (getD (j .due) (j .messages / 64) 0) (j .messages % 64) (v .done))
+      (one-is : one ≡ cond (v .done) 1 0) where
+    abbrev after-it : Judged
+    after-it = record {
+      refusal = 0;
+      messages = j .messages + 1;
+      bytes = j .bytes + len;
+      completed = j .completed + one;
+      lowest = v .lowest;
+      closed = v .closed;
+      table = set (j .table) s (v .slot);
+      due = set (j .due) (j .messages / 64) word;
+    }
+
+    on-is : after-it ≡ judgedOn j (messageAt f at) (its-verdict f size at j)
+    unfolding judgedOn notedOf after
+    on-is = rw (← is-its, word-is, one-is, place-is w s s-is, ← w .bytes-are)
+
+    pub judging-ends : more ≡ false → after-it ≡ judgedOf f t size
+    judging-ends z =
+        on-is
+        ∙ sym (one-turn
+        ∙ judged-last f size at j (turn-left .0) (w .inside-frame) (sym refusal-is ∙ ok) (sym (w .more-is) ∙ z))
+
+    pub judging-on : more ≡ true → Judging f size t next after-it
+    judging-on z =
+        record {
+          turns = turn-left .0;
+          enough = omega (arith, g .enough, w .next-beyond, turn-left .1);
+          is =
+              one-turn
+              ∙ judged-more f size at j (turn-left .0) (w .inside-frame) (sym refusal-is ∙ ok) (sym (w .more-is) ∙ z)
+              ∙ rw (← on-is, ← w .next-is);
+        }
+
+-- ---- the same of the walk that looks for closing messages alone
 
 pub record Finding (f : List ℕ) (size : ℕ) (t : Transactions) (at : ℕ) (c : Closing) : Type 0 where
   pub turns : ℕ
@@ -197,42 +245,60 @@ pub finding-start : (f : List ℕ) (size : ℕ) (t : Transactions) → length f 
     → Finding f size t 10 (record { messages = 0; bytes = 0; lowest = record { 0 = t .lowest }; closed = t .closed })
 finding-start f size t h = record { turns = length f; enough = omega arith; is = closing-short f t size h }
 
-module _ {f : List ℕ} {size : ℕ} {t : Transactions} {at : ℕ} {c : Closing} (g : Finding f size t at c) where
-  pub finding-past : foundAt f at ≡ PastEnd → noneClosing ≡ closingOf f t size
-  finding-past e = sym (g .is ∙ closing-past f size (t .table) at c (g .turns) (is-past f at e))
+pub finding-past : {f : List ℕ} {size : ℕ} {t : Transactions} {at : ℕ} {c : Closing} → Finding f size t at c
+    → foundAt f at ≡ PastEnd → noneClosing ≡ closingOf f t size
+finding-past {f} {size} {t} {at} {c} g e = sym (g .is ∙ closing-past f size (t .table) at c (g .turns) (is-past f at e))
 
-  module _ {h : MessageHeader} {len : ℕ} {more : Bool} {next : ℕ} (w : IsWhole f at h len more next) where
-    turn-left-here : (n : ℕ) × (g .turns ≡ suc n)
-    turn-left-here = go (g .turns) refl
-      where
-        go : (n : ℕ) → g .turns ≡ n → (n : ℕ) × (g .turns ≡ suc n)
-        go zero q = absurd (omega (arith, w .inside-frame, g .enough))
-        go (suc n) q = (n, q)
+module _ {f : List ℕ} {size : ℕ} {t : Transactions} {at : ℕ} {c : Closing} {h : MessageHeader} {len : ℕ} {more : Bool} {next : ℕ}
+    {v : Verdict} {s : ℕ} {yes′ : Bool} (g : Finding f size t at c) (w : IsWhole f at h len more next)
+    (v-is : v ≡ verdictOf (c .lowest .0) (c .closed) (getD (t .table) s free) h len size) (s-is : s ≡ h .trans .0 % 32)
+    (closes-is : yes′ ≡ closes v (getD (t .table) s free)) where
+  turn-left-here : (n : ℕ) × (g .turns ≡ suc n)
+  turn-left-here = go (g .turns) refl
+    where
+      go : (n : ℕ) → g .turns ≡ n → (n : ℕ) × (g .turns ≡ suc n)
+      go zero q = absurd (omega (arith, w .inside-frame, g .enough))
+      go (suc n) q = (n, q)
 
-    one-turn-here : closingOf f t size ≡ closingFrom (suc (turn-left-here .0)) f size (t .table) at c
-    one-turn-here = g .is ∙ ap (λ (k : ℕ). closingFrom k f size (t .table) at c) (turn-left-here .1)
+  one-turn-here : closingOf f t size ≡ closingFrom (suc (turn-left-here .0)) f size (t .table) at c
+  one-turn-here = g .is ∙ ap (λ (k : ℕ). closingFrom k f size (t .table) at c) (turn-left-here .1)
 
-    pub finding-stops : Closes f size (t .table) at c false → noneClosing ≡ closingOf f t size
-    finding-stops z = sym (one-turn-here ∙ closing-stops f size (t .table) at c (turn-left-here .0) (w .inside-frame) z)
+  is-closing : v ≡ closing-verdict f size (t .table) at c
+  is-closing = v-is ∙ verdict-is w (record { lowest = c .lowest .0; closed = c .closed; table = t .table }) size s s-is
 
-    module _ (yes′ : Closes f size (t .table) at c true) (c′ : Closing)
-        (on : c′ ≡ closingOn c (messageAt f at) (closing-verdict f size (t .table) at c)) where
-      pub finding-ends : more ≡ false → c′ ≡ closingOf f t size
-      finding-ends z =
-          on
-          ∙ sym (one-turn-here
-          ∙ closing-last f size (t .table) at c (turn-left-here .0) (w .inside-frame) yes′ (sym (w .more-is) ∙ z))
+  closes-it : (b : Bool) → yes′ ≡ b → Closes f size (t .table) at c b
+  closes-it b e = rw (← is-closing, ← place-is w s s-is, ← closes-is) e
 
-      pub finding-on : more ≡ true → Finding f size t next c′
-      finding-on z =
-          record {
-            turns = turn-left-here .0;
-            enough = omega (arith, g .enough, w .next-beyond, turn-left-here .1);
-            is =
-                one-turn-here
-                ∙ closing-more f size (t .table) at c (turn-left-here .0) (w .inside-frame) yes′ (sym (w .more-is) ∙ z)
-                ∙ rw (← on, ← w .next-is);
-          }
+  pub finding-stops : yes′ ≡ false → noneClosing ≡ closingOf f t size
+  finding-stops z =
+      sym (one-turn-here
+      ∙ closing-stops f size (t .table) at c (turn-left-here .0) (w .inside-frame) (closes-it false z))
+
+  module _ (closing : yes′ ≡ true) where
+    abbrev closing-after : Closing
+    closing-after = record { messages = c .messages + 1; bytes = c .bytes + len; lowest = v .lowest; closed = v .closed }
+
+    closing-on : closing-after ≡ closingOn c (messageAt f at) (closing-verdict f size (t .table) at c)
+    unfolding closingOn
+    closing-on = rw (is-closing, ← w .bytes-are)
+
+    pub finding-ends : more ≡ false → closing-after ≡ closingOf f t size
+    finding-ends z =
+        closing-on
+        ∙ sym (one-turn-here
+        ∙ closing-last f size (t .table) at c (turn-left-here .0) (w .inside-frame) (closes-it true closing) (sym (w .more-is) ∙ z))
+
+    pub finding-on : more ≡ true → Finding f size t next closing-after
+    finding-on z =
+        record {
+          turns = turn-left-here .0;
+          enough = omega (arith, g .enough, w .next-beyond, turn-left-here .1);
+          is =
+              one-turn-here
+              ∙ closing-more f size (t .table) at c (turn-left-here .0) (w .inside-frame) (closes-it true closing)
+              (sym (w .more-is) ∙ z)
+              ∙ rw (← closing-on, ← w .next-is);
+        }
 
 -- ---- bounds that hold whatever the messages are
 
@@ -276,47 +342,3 @@ module _ {f : List ℕ} {at i b c : ℕ} {table : List Open} {due : List ℕ} {h
   pub steady-set : (slot : Open) (place word one : ℕ) → one ≤ 1
       → Steady f next (i + 1) (b + len) (c + one) (set table place slot) (set due (i / 64) word)
   steady-set slot place word one l = steady-turn one _ _ l (length-set table place slot) (length-set due (i / 64) word)
-
--- ---- what code knows of the message that it found
-
-module _ {f : List ℕ} {at : ℕ} {h : MessageHeader} {len : ℕ} {more : Bool} {next : ℕ} (w : IsWhole f at h len more next) where
-  -- the header and the length that were read are the message's
-  head-is : h ≡ headOf (messageAt f at)
-  unfolding headOf messageAt headAt
-  head-is = w .header-is
-
-  place-is : (s : ℕ) → s ≡ h .trans .0 % 32 → s ≡ messageAt f at .trans % 32
-  unfolding headOf
-  place-is s e = e ∙ ap (λ (h : MessageHeader). h .trans .0 % 32) head-is
-
-  pub verdict-is : (t : Transactions) (size s : ℕ) → s ≡ h .trans .0 % 32
-      → verdictOf (t .lowest) (t .closed) (getD (t .table) s free) h len size ≡ verdict t size (messageAt f at)
-  unfolding verdict headOf
-  verdict-is t size s s-is = rw (s-is, head-is, ← w .bytes-are)
-
-  -- the sums and the state after it, as code has them
-  pub judged-on : (j : Judged) (v v′ : Verdict) (s word one : ℕ) → v ≡ v′ → s ≡ h .trans .0 % 32
-      → word ≡ notedWord (getD (j .due) (j .messages / 64) 0) (j .messages % 64) (v .done) → one ≡ cond (v .done) 1 0
-      → record {
-        refusal = 0;
-        messages = j .messages + 1;
-        bytes = j .bytes + len;
-        completed = j .completed + one;
-        lowest = v .lowest;
-        closed = v .closed;
-        table = set (j .table) s (v .slot);
-        due = set (j .due) (j .messages / 64) word;
-      } ≡ judgedOn j (messageAt f at) v′
-  unfolding judgedOn notedOf after
-  judged-on j v v′ s word one e s-is word-is one-is =
-      rw (← e, word-is, one-is, place-is s s-is, ← w .bytes-are)
-
-  pub closing-on : (c : Closing) (v v′ : Verdict) → v ≡ v′
-      → record { messages = c .messages + 1; bytes = c .bytes + len; lowest = v .lowest; closed = v .closed }
-      ≡ closingOn c (messageAt f at) v′
-  unfolding closingOn
-  closing-on c v v′ e = rw (e, ← w .bytes-are)
-
-  pub closes-is : (table : List Open) (v v′ : Verdict) (s : ℕ) (b b′ : Bool) → v ≡ v′ → s ≡ h .trans .0 % 32
-      → b ≡ closes v (getD table s free) → b ≡ b′ → closes v′ (getD table (messageAt f at .trans % 32) free) ≡ b′
-  closes-is table v v′ s b b′ e s-is q d = rw (← e, ← place-is s s-is, ← q) d

@@ -28,100 +28,7 @@ fn place_of(h: MessageHeader) -> usize
     (trans.0 % 32) as usize
 }
 
-// Whether two places hold the same.
-fn is_same(a: Open, b: Open) -> bool
-    ensures { λ r. ⌜ r ≡ sameOpen a b ⌝ }
-{
-    if a.received != b.received {
-        return false;
-    }
-    if a.count != b.count {
-        return false;
-    }
-    if a.target != b.target {
-        return false;
-    }
-    a.value == b.value
-}
-
-// Whether a message completes its transaction and leaves the transaction's place in the table as it is.
-fn leaves_no_trace(v: Verdict, o: Open) -> bool
-    ensures { λ r. ⌜ r ≡ closes v o ⌝ }
-{
-    if v.refusal != 0 {
-        return false;
-    }
-    if !v.done {
-        return false;
-    }
-    let slot = v.slot;
-    is_same(slot, o)
-}
-
-// What is found of a frame whose messages all complete their transaction and leave no trace in the table; of any other frame
-// all zeros. The table is then not made anew: for short transactions its copies would cost more than the judging.
-pub struct Closing {
-    pub messages: u32,
-    pub bytes: u32,
-    pub lowest: TransNo,
-    pub closed: u32,
-}
-
-fn make_closing(messages: u32, bytes: u32, lowest: TransNo, closed: u32) -> Closing
-    ensures { λ r. ⌜ r ≡ record { messages = messages; bytes = bytes; lowest = lowest; closed = closed } ⌝ }
-{
-    Closing {
-        messages,
-        bytes,
-        lowest,
-        closed,
-    }
-}
-
-fn none_closing() -> Closing
-    ensures { λ r. ⌜ r ≡ noneClosing ⌝ }
-{
-    make_closing(0, 0, TransNo(0), 0)
-}
-
-// Judges a frame's messages as judge_all does, up to the first that is refused or leaves a trace.
-pub fn judge_closing(low: TransNo, shut: u32, table: [Open; 32], f: &[u8], size: usize) -> Closing
-    ensures { λ r. ⌜ r ≡ closingOf (now (f .entry)) (record { lowest = low .0; closed = shut; table = table }) size ⌝ }
-{
-    if reader::FRAME_MOST < f.len() {
-        return none_closing();
-    }
-    let mut lowest = low;
-    let mut closed = shut;
-    let mut messages: u32 = 0;
-    let mut bytes: u32 = 0;
-    let mut at = 10;
-    loop {
-        let found = reader::message_at(f, at);
-        match found {
-            Found::PastEnd => {
-                return none_closing();
-            }
-            Found::Whole(h, len, more, next) => {
-                let s = place_of(h);
-                let o = table[s];
-                let v = transactions::judge(lowest, closed, o, h, len, size);
-                if !leaves_no_trace(v, o) {
-                    return none_closing();
-                }
-                let moved = v.lowest;
-                lowest = moved;
-                closed = v.closed;
-                messages += 1;
-                bytes += len as u32;
-                if !more {
-                    return make_closing(messages, bytes, lowest, closed);
-                }
-                at = next;
-            }
-        }
-    }
-}
+// ---- any frame
 
 // What is found of any frame: a refusal, and then messages is the index of the message that it is about and all else is 0; or
 // none, and then the sums, the transactions as they are after the frame, and marks of the messages that complete theirs.
@@ -249,6 +156,103 @@ pub fn judge_all(low: TransNo, shut: u32, places: [Open; 32], f: &[u8], size: us
                 completed += one_if(v.done);
                 if !more {
                     return passed(messages, bytes, completed, lowest, closed, table, due);
+                }
+                at = next;
+            }
+        }
+    }
+}
+
+// ---- frames that leave the table as it is
+
+// Whether two places hold the same.
+fn is_same(a: Open, b: Open) -> bool
+    ensures { λ r. ⌜ r ≡ sameOpen a b ⌝ }
+{
+    if a.received != b.received {
+        return false;
+    }
+    if a.count != b.count {
+        return false;
+    }
+    if a.target != b.target {
+        return false;
+    }
+    a.value == b.value
+}
+
+// Whether a message completes its transaction and leaves the transaction's place in the table as it is.
+fn leaves_no_trace(v: Verdict, o: Open) -> bool
+    ensures { λ r. ⌜ r ≡ closes v o ⌝ }
+{
+    if v.refusal != 0 {
+        return false;
+    }
+    if !v.done {
+        return false;
+    }
+    let slot = v.slot;
+    is_same(slot, o)
+}
+
+// What is found of a frame whose messages all complete their transaction and leave no trace in the table; of any other frame
+// all zeros. The table is then not made anew: for short transactions its copies would cost more than the judging.
+pub struct Closing {
+    pub messages: u32,
+    pub bytes: u32,
+    pub lowest: TransNo,
+    pub closed: u32,
+}
+
+fn make_closing(messages: u32, bytes: u32, lowest: TransNo, closed: u32) -> Closing
+    ensures { λ r. ⌜ r ≡ record { messages = messages; bytes = bytes; lowest = lowest; closed = closed } ⌝ }
+{
+    Closing {
+        messages,
+        bytes,
+        lowest,
+        closed,
+    }
+}
+
+fn none_closing() -> Closing
+    ensures { λ r. ⌜ r ≡ noneClosing ⌝ }
+{
+    make_closing(0, 0, TransNo(0), 0)
+}
+
+// Judges a frame's messages as judge_all does, up to the first that is refused or leaves a trace.
+pub fn judge_closing(low: TransNo, shut: u32, table: [Open; 32], f: &[u8], size: usize) -> Closing
+    ensures { λ r. ⌜ r ≡ closingOf (now (f .entry)) (record { lowest = low .0; closed = shut; table = table }) size ⌝ }
+{
+    if reader::FRAME_MOST < f.len() {
+        return none_closing();
+    }
+    let mut lowest = low;
+    let mut closed = shut;
+    let mut messages: u32 = 0;
+    let mut bytes: u32 = 0;
+    let mut at = 10;
+    loop {
+        let found = reader::message_at(f, at);
+        match found {
+            Found::PastEnd => {
+                return none_closing();
+            }
+            Found::Whole(h, len, more, next) => {
+                let s = place_of(h);
+                let o = table[s];
+                let v = transactions::judge(lowest, closed, o, h, len, size);
+                if !leaves_no_trace(v, o) {
+                    return none_closing();
+                }
+                let moved = v.lowest;
+                lowest = moved;
+                closed = v.closed;
+                messages += 1;
+                bytes += len as u32;
+                if !more {
+                    return make_closing(messages, bytes, lowest, closed);
                 }
                 at = next;
             }

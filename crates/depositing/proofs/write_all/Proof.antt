@@ -63,19 +63,15 @@ data-at-requires c κs = search needs
 mul-is-marked : tie.Need-mul-is-marked Inv-loop μ-loop
 mul-is-marked c =
     let known = c .before .before .before in
-    let w =
-    is-whole (sym (known .before .before .message-at .ensures)
-    ∙ known .found .given .1) in
     let k = known .before .before .before .before .loop .inv in
+    let w = is-whole (sym (known .before .before .message-at .ensures) ∙ known .found .given .1) in
     omega (arith, k .words, in-words k w)
 
 array-read-is-marked : tie.Need-array-read-is-marked Inv-loop μ-loop
 array-read-is-marked c =
     let known = c .before .before .before in
-    let w =
-    is-whole (sym (known .before .before .message-at .ensures)
-    ∙ known .found .given .1) in
     let k = known .before .before .before .before .loop .inv in
+    let w = is-whole (sym (known .before .before .message-at .ensures) ∙ known .found .given .1) in
     omega (arith, k .words, in-words k w)
 
 is-marked-requires : tie.Need-is-marked-requires Inv-loop μ-loop
@@ -87,10 +83,9 @@ write-message-requires c κs = search needs
 add-i : tie.Need-add-i Inv-loop μ-loop
 add-i c =
     let known = c .before .before .before .before .before .before .before in
-    let w =
-    is-whole (sym (known .before .before .message-at .ensures)
-    ∙ known .found .given .1) in
-    omega (arith, in-words (known .before .before .before .before .loop .inv) w)
+    let k = known .before .before .before .before .loop .inv in
+    let w = is-whole (sym (known .before .before .message-at .ensures) ∙ known .found .given .1) in
+    omega (arith, in-words k w)
 
 loop-less : tie.Need-loop-less Inv-loop μ-loop
 loop-less c =
@@ -99,14 +94,11 @@ loop-less c =
 loop-again : tie.Need-loop-again Inv-loop μ-loop
 loop-again c =
     let known = c .before .before .before .before .before .before .before in
-    let w =
-    is-whole (sym (known .before .before .message-at .ensures)
-    ∙ known .found .given .1) in
-    writing-turn (known .before .before .before .before .loop .inv) w _ _ _
-    (known .before .before .before .loop-test .taken)
+    let k = known .before .before .before .before .loop .inv in
+    let w = is-whole (sym (known .before .before .message-at .ensures) ∙ known .found .given .1) in
+    writing-turn k w _ _ _ (known .before .before .before .loop-test .taken)
     (rw (c .before .before .before .before .data-at .ensures) (carrying-is w))
-    (c .before .before .before .is-marked .ensures ∙ due-is _ _)
-    (c .before .before .write-message .ensures)
+    (c .before .before .before .is-marked .ensures ∙ due-is _ _) (c .before .before .write-message .ensures)
 
 same-length-2 : tie.Need-same-length-2 Inv-loop μ-loop
 same-length-2 c = c .before .loop .inv .same

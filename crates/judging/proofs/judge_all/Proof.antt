@@ -1,12 +1,11 @@
 -- `judging::judge_all` judges message by message, as the definition does.
 -- Assumes nothing.
-use mathlib.Core.Path.{_≡_, refl, sym, ap, _∙_}
+use mathlib.Core.Path.{_≡_, refl, sym, _∙_}
 use Prim.Native.Nat.{_+_, _-_}
 use native.Mathlib.Omega.{arith}
 use borrow.Author.Needs.{needs}
 use borrow.Author.Tests.{not-true, not-false}
 use lib.ListN.{length}
-use Rattle.transactions.specs.declared.Verdict.{Verdict}
 use Rattle.reader.proofs.Reading.{is-whole}
 use Rattle.judging.proofs.Judging.{
   judged-long,
@@ -19,8 +18,6 @@ use Rattle.judging.proofs.Judging.{
   Steady,
   steady-start,
   steady-set,
-  verdict-is,
-  judged-on,
 }
 use Rattle.judging.proofs.judge_all.Statement.{statement}
 use Rattle.judging.proofs.judge_all.Tie as tie
@@ -105,23 +102,19 @@ refused-at-requires-3 c κs = search needs
 
 returns-3 : tie.Need-returns-3 Inv-loop μ-loop
 returns-3 c =
-    let placed = c .before .before .before .before .before in
-    let w =
-    is-whole (sym (placed .before .before .before .before .message-at .ensures)
-    ∙ placed .before .before .found .given .1) in
-    let p = placed .place-of .ensures .0 in
-    let v = c .before .before .before .judge .ensures ∙ verdict-is w _ _ _ p in
+    let here = c .before .before .before .before .before in
+    let w = is-whole (sym (here .before .before .before .before .message-at .ensures) ∙ here .before .before .found .given .1) in
     c .refused-at3 .ensures
-    ∙ judging-stops (placed .before .before .before .before .before .loop .inv .1) w _
-    (ap (λ (v : Verdict). v .refusal) v) (c .before .if2 .taken)
+    ∙ judging-stops (here .before .before .before .before .before .loop .inv .1) w (c .before .before .before .judge .ensures)
+    (here .place-of .ensures .0) (c .before .if2 .taken)
 
 mul-table : tie.Need-mul-table Inv-loop μ-loop
 mul-table c = omega (arith, c .before .before .before .before .before .before .place-of .ensures .1)
 
 array-set-from-table : tie.Need-array-set-from-table Inv-loop μ-loop
 array-set-from-table c =
-    let placed = c .before .before .before .before .before .before in
-    omega (arith, placed .place-of .ensures .1, placed .before .before .before .before .before .loop .inv .0)
+    let here = c .before .before .before .before .before .before in
+    omega (arith, here .place-of .ensures .1, here .before .before .before .before .before .loop .inv .0)
 
 cast-w : tie.Need-cast-w Inv-loop μ-loop
 cast-w c = omega arith
@@ -154,11 +147,9 @@ cast-bytes c = search needs
 
 add-bytes : tie.Need-add-bytes Inv-loop μ-loop
 add-bytes c =
-    let placed = c .before .before .before .before .before .before .before in
-    let w =
-    is-whole (sym (placed .before .before .before .before .message-at .ensures)
-    ∙ placed .before .before .found .given .1) in
-    omega (arith, placed .before .before .before .before .before .loop .inv .0, w)
+    let here = c .before .before .before .before .before .before .before in
+    let w = is-whole (sym (here .before .before .before .before .message-at .ensures) ∙ here .before .before .found .given .1) in
+    omega (arith, here .before .before .before .before .before .loop .inv .0, w)
 
 one-if-requires : tie.Need-one-if-requires Inv-loop μ-loop
 one-if-requires c κs = search needs
@@ -176,38 +167,31 @@ passed-requires c κs = search needs
 
 returns-4 : tie.Need-returns-4 Inv-loop μ-loop
 returns-4 c =
-    let placed = c .before .before .before .before .before .before .before .before .before .before in
-    let k = placed .before .before .before .before .before .loop in
-    let w =
-    is-whole (sym (placed .before .before .before .before .message-at .ensures)
-    ∙ placed .before .before .found .given .1) in
-    let p = placed .place-of .ensures .0 in
-    let v = c .before .before .before .before .before .before .before .before .judge .ensures ∙ verdict-is w _ _ _ p in
-    let ok = sym (ap (λ (v : Verdict). v .refusal) v) ∙ c .before .before .before .before .before .before .if2 .left in
-    let on = judged-on w _ _ _ _ _ _ v p (c .before .before .before .noted .ensures) (c .before .before .one-if .ensures .0) in
-    c .passed .ensures ∙ judging-ends (k .inv .1) w ok _ on (not-true _ (c .before .if3 .taken))
+    let here = c .before .before .before .before .before .before .before .before .before .before in
+    let w = is-whole (sym (here .before .before .before .before .message-at .ensures) ∙ here .before .before .found .given .1) in
+    c .passed .ensures
+    ∙ judging-ends (here .before .before .before .before .before .loop .inv .1) w
+    (c .before .before .before .before .before .before .before .before .judge .ensures)
+    (here .place-of .ensures .0) (c .before .before .before .before .before .before .if2 .left)
+    (c .before .before .before .noted .ensures)
+    (c .before .before .one-if .ensures .0) (not-true _ (c .before .if3 .taken))
 
 loop-less : tie.Need-loop-less Inv-loop μ-loop
 loop-less c =
-    let placed = c .before .before .before .before .before .before .before .before .before in
-    let w =
-    is-whole (sym (placed .before .before .before .before .message-at .ensures)
-    ∙ placed .before .before .found .given .1) in
-    omega (arith, placed .before .before .before .before .before .loop .inv .0, w)
+    let here = c .before .before .before .before .before .before .before .before .before in
+    let w = is-whole (sym (here .before .before .before .before .message-at .ensures) ∙ here .before .before .found .given .1) in
+    omega (arith, here .before .before .before .before .before .loop .inv .0, w)
 
 loop-again : tie.Need-loop-again Inv-loop μ-loop
 loop-again c =
-    let placed = c .before .before .before .before .before .before .before .before .before in
-    let k = placed .before .before .before .before .before .loop in
-    let w =
-    is-whole (sym (placed .before .before .before .before .message-at .ensures)
-    ∙ placed .before .before .found .given .1) in
-    let p = placed .place-of .ensures .0 in
-    let v = c .before .before .before .before .before .before .before .judge .ensures ∙ verdict-is w _ _ _ p in
-    let ok = sym (ap (λ (v : Verdict). v .refusal) v) ∙ c .before .before .before .before .before .if2 .left in
-    let on = judged-on w _ _ _ _ _ _ v p (c .before .before .noted .ensures) (c .before .one-if .ensures .0) in (
+    let here = c .before .before .before .before .before .before .before .before .before in
+    let w = is-whole (sym (here .before .before .before .before .message-at .ensures) ∙ here .before .before .found .given .1) in
+    let k = here .before .before .before .before .before .loop in (
       steady-set (k .inv .0) w _ _ _ _ (c .before .one-if .ensures .1),
-      judging-on (k .inv .1) w ok _ on (not-false _ (c .if3 .left)),
+      judging-on (k .inv .1) w (c .before .before .before .before .before .before .before .judge .ensures)
+          (here .place-of .ensures .0)
+          (c .before .before .before .before .before .if2 .left) (c .before .before .noted .ensures) (c .before .one-if .ensures .0)
+          (not-false _ (c .if3 .left)),
     )
 
 pub judge-all-spec : {M : Type 1} → statement M

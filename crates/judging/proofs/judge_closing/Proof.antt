@@ -18,9 +18,6 @@ use Rattle.judging.proofs.Judging.{
   Steady,
   steady-start,
   steady-turn,
-  verdict-is,
-  closing-on,
-  closes-is,
 }
 use Rattle.judging.proofs.judge_closing.Statement.{statement}
 use Rattle.judging.proofs.judge_closing.Tie as tie
@@ -95,15 +92,12 @@ none-closing-requires-3 c κs = search needs
 
 returns-3 : tie.Need-returns-3 Inv-loop μ-loop
 returns-3 c =
-    let placed = c .before .before .before .before .before in
-    let w =
-    is-whole (sym (placed .before .before .before .before .message-at .ensures)
-    ∙ placed .before .before .found .given .1) in
-    let p = placed .place-of .ensures .0 in
-    let v = c .before .before .before .judge .ensures ∙ verdict-is w _ _ _ p in
-    let y = closes-is w (placed .before .before .before .before .before .before .before .before .args .t3) _ _ _ _ _ v p
-    (c .before .before .leaves-no-trace .ensures) (not-true _ (c .before .if2 .taken)) in
-    c .none-closing3 .ensures ∙ finding-stops (placed .before .before .before .before .before .loop .inv .1) w y
+    let here = c .before .before .before .before .before in
+    let w = is-whole (sym (here .before .before .before .before .message-at .ensures) ∙ here .before .before .found .given .1) in
+    c .none-closing3 .ensures
+    ∙ finding-stops (here .before .before .before .before .before .loop .inv .1) w (c .before .before .before .judge .ensures)
+    (here .place-of .ensures .0)
+    (c .before .before .leaves-no-trace .ensures) (not-true _ (c .before .if2 .taken))
 
 add-messages : tie.Need-add-messages Inv-loop μ-loop
 add-messages c =
@@ -114,50 +108,38 @@ cast-bytes c = search needs
 
 add-bytes : tie.Need-add-bytes Inv-loop μ-loop
 add-bytes c =
-    let placed = c .before .before .before .before .before in
-    let w =
-    is-whole (sym (placed .before .before .before .before .message-at .ensures)
-    ∙ placed .before .before .found .given .1) in
-    omega (arith, placed .before .before .before .before .before .loop .inv .0, w)
+    let here = c .before .before .before .before .before in
+    let w = is-whole (sym (here .before .before .before .before .message-at .ensures) ∙ here .before .before .found .given .1) in
+    omega (arith, here .before .before .before .before .before .loop .inv .0, w)
 
 make-closing-requires : tie.Need-make-closing-requires Inv-loop μ-loop
 make-closing-requires c κs = search needs
 
 returns-4 : tie.Need-returns-4 Inv-loop μ-loop
 returns-4 c =
-    let placed = c .before .before .before .before .before .before .before in
-    let w =
-    is-whole (sym (placed .before .before .before .before .message-at .ensures)
-    ∙ placed .before .before .found .given .1) in
-    let p = placed .place-of .ensures .0 in
-    let v = c .before .before .before .before .before .judge .ensures ∙ verdict-is w _ _ _ p in
-    let y = closes-is w (placed .before .before .before .before .before .before .before .before .args .t3) _ _ _ _ _ v p
-    (c .before .before .before .before .leaves-no-trace .ensures) (not-false _ (c .before .before .before .if2 .left)) in
+    let here = c .before .before .before .before .before .before .before in
+    let w = is-whole (sym (here .before .before .before .before .message-at .ensures) ∙ here .before .before .found .given .1) in
     c .make-closing .ensures
-    ∙ finding-ends (placed .before .before .before .before .before .loop .inv .1) w y _
-    (closing-on w _ _ _ v) (not-true _ (c .before .if3 .taken))
+    ∙ finding-ends (here .before .before .before .before .before .loop .inv .1) w
+    (c .before .before .before .before .before .judge .ensures) (here .place-of .ensures .0)
+    (c .before .before .before .before .leaves-no-trace .ensures) (not-false _ (c .before .before .before .if2 .left))
+    (not-true _ (c .before .if3 .taken))
 
 loop-less : tie.Need-loop-less Inv-loop μ-loop
 loop-less c =
-    let placed = c .before .before .before .before .before .before in
-    let w =
-    is-whole (sym (placed .before .before .before .before .message-at .ensures)
-    ∙ placed .before .before .found .given .1) in
-    omega (arith, placed .before .before .before .before .before .loop .inv .0, w)
+    let here = c .before .before .before .before .before .before in
+    let w = is-whole (sym (here .before .before .before .before .message-at .ensures) ∙ here .before .before .found .given .1) in
+    omega (arith, here .before .before .before .before .before .loop .inv .0, w)
 
 loop-again : tie.Need-loop-again Inv-loop μ-loop
 loop-again c =
-    let placed = c .before .before .before .before .before .before in
-    let k = placed .before .before .before .before .before .loop in
-    let w =
-    is-whole (sym (placed .before .before .before .before .message-at .ensures)
-    ∙ placed .before .before .found .given .1) in
-    let p = placed .place-of .ensures .0 in
-    let v = c .before .before .before .before .judge .ensures ∙ verdict-is w _ _ _ p in
-    let y = closes-is w (placed .before .before .before .before .before .before .before .before .args .t3) _ _ _ _ _ v p
-    (c .before .before .before .leaves-no-trace .ensures) (not-false _ (c .before .before .if2 .left)) in (
+    let here = c .before .before .before .before .before .before in
+    let w = is-whole (sym (here .before .before .before .before .message-at .ensures) ∙ here .before .before .found .given .1) in
+    let k = here .before .before .before .before .before .loop in (
       steady-turn (k .inv .0) w 1 _ _ (omega arith) refl refl,
-      finding-on (k .inv .1) w y _ (closing-on w _ _ _ v) (not-false _ (c .if3 .left)),
+      finding-on (k .inv .1) w (c .before .before .before .before .judge .ensures) (here .place-of .ensures .0)
+          (c .before .before .before .leaves-no-trace .ensures) (not-false _ (c .before .before .if2 .left))
+          (not-false _ (c .if3 .left)),
     )
 
 pub judge-closing-spec : {M : Type 1} → statement M
