@@ -7,12 +7,11 @@ use mathlib.Core.List.{List}
 use Prim.Native.Nat.{ℕ, zero, suc, _+_, _*_, _/_, _%_, _≤_, _<_}
 use native.Mathlib.Omega.{arith}
 use borrow.Author.Tests.{le-leb, lt-leb, lt-ltb, le-ltb, eq-eqb, ne-eqb, eqb-true}
-use lib.Dec.{eqb, leb, ltb}
-use lib.ListN.{length, getD, set, replicate, length-set}
+use lib.Dec.{eqb}
+use lib.ListN.{length, getD, set, length-set}
 use Rattle.octets.specs.Octets.{field}
-use Rattle.seq.specs.declared.TransNo.{TransNo}
 use Rattle.wire.specs.declared.MessageHeader.{MessageHeader}
-use Rattle.wire.specs.Format.{Message, headOf, nextHeader, frameMost}
+use Rattle.wire.specs.Format.{headOf, nextHeader, frameMost}
 use Rattle.wire.specs.Reading.{follows, dataEnd, messageAt}
 use Rattle.reader.specs.declared.Found.the-variants.{PastEnd}
 use Rattle.reader.specs.Layout.{headAt, foundAt}

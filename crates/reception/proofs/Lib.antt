@@ -1,3 +1,4 @@
 pub mod Dues
 pub mod Passes
+pub mod Closings
 pub mod Receiving

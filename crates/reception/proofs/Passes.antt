@@ -2,41 +2,33 @@
 -- Assumes nothing.
 use mathlib.Core.Path.{_≡_, refl, sym, _∙_, ap}
 use mathlib.Core.Logic.{_≢_}
-use mathlib.Core.Bool.{Bool, true, false, cond}
+use mathlib.Core.Bool.{Bool, true, false}
 use mathlib.Core.List.{List, [], _∷_}
 use mathlib.Core.Option.{Option, none, some}
-use Prim.Native.Nat.{ℕ, zero, suc, _+_, _*_, _/_, _%_, _≤_, _<_}
+use Prim.Native.Nat.{ℕ, zero, suc, _+_, _*_, _/_, _≤_, _<_}
 use native.Mathlib.Numerals.{add-one}
 use native.Mathlib.Decide.{decLe}
 use native.Mathlib.Omega.{arith}
 use borrow.Author.Tests.{eq-eqb, ne-eqb, eqb-true, eqb-false}
-use lib.Dec.{eqb, leb}
-use lib.ListN.{length, getD, set, replicate}
-use lib.Seq.{set-getD}
+use lib.Dec.{eqb}
+use lib.ListN.{length}
 use Rattle.octets.specs.Octets.{field}
 use Rattle.wire.specs.Format.{Message, nextHeader}
 use Rattle.wire.specs.Reading.{follows, dataEnd, messageAt, prepend, messagesFrom}
 use Rattle.wire.proofs.Format.{next-after}
 use Rattle.wire.proofs.Reading.{Headed, unread, headed}
-use Rattle.reader.proofs.Reading.{step-past, step-last, step-more}
-use Rattle.transactions.specs.declared.Open.{Open}
+use Rattle.reader.proofs.Reading.{step-last, step-more}
 use Rattle.transactions.specs.declared.Verdict.{Verdict}
-use Rattle.transactions.specs.Transactions.{free, Transactions, verdict, after}
+use Rattle.transactions.specs.Transactions.{Transactions, verdict, after}
 use Rattle.host.specs.Host.{effect, Tally, takeIn, fine, wrong, takeAll}
 use Rattle.host.proofs.Receiving.{length-effect}
 use Rattle.judging.specs.declared.Judged.{Judged}
-use Rattle.judging.specs.declared.Closing.{Closing}
 use Rattle.judging.specs.Judging.{
   refusedAt,
   noneJudged,
   leftBy,
-  notedOf,
   judgedOn,
   judgedFrom,
-  closes,
-  noneClosing,
-  closingOn,
-  closingFrom,
 }
 use Rattle.judging.proofs.Judging.{
   its-verdict,
@@ -44,12 +36,6 @@ use Rattle.judging.proofs.Judging.{
   judged-stops,
   judged-last,
   judged-more,
-  closing-verdict,
-  closes-parts,
-  closing-past,
-  closing-stops,
-  closing-last,
-  closing-more,
 }
 use Rattle.depositing.specs.Depositing.{dueAt, writtenFrom}
 use Rattle.depositing.proofs.Depositing.{written-more}
@@ -73,16 +59,16 @@ unfolding takeIn judgedOn after
 taken-in j memory m v = refl
 
 module _ (size : ℕ) (j : Judged) (memory : List ℕ) (m : Message) (ms : List Message) (same : length memory ≡ size) where
-  v : Verdict
+  abbrev v : Verdict
   v = verdict (leftBy j) size m
 
   take-refused : v .refusal ≢ 0 → takeAll (tallyBy j memory) (j .messages) (m ∷ ms) ≡ wrong (v .refusal) (j .messages)
-  unfolding takeAll v
+  unfolding takeAll
   take-refused ne = rw (same, ne-eqb (v .refusal) 0 ne)
 
   take-on : v .refusal ≡ 0 → takeAll (tallyBy j memory) (j .messages) (m ∷ ms)
       ≡ takeAll (tallyBy (judgedOn j m v) (effect memory m (v .done))) (suc (j .messages)) ms
-  unfolding takeAll v
+  unfolding takeAll
   take-on ok =
       rw (same, eq-eqb (v .refusal) 0 ok)
       (ap (λ (y : Tally). takeAll y (suc (j .messages)) ms) (taken-in j memory m v))
@@ -99,22 +85,22 @@ pub noting-start : (f : List ℕ) (t : Transactions) → length f ≤ 9000 → N
 noting-start f t h = record { short = h; spaced = omega arith; words = refl; clear = λ i l. none-noted i }
 
 module _ {f : List ℕ} {at : ℕ} {j : Judged} (g : Noting f at j) (inside : dataEnd f at ≤ length f) (w : Verdict) where
-  on : Judged
+  abbrev pub on : Judged
   on = judgedOn j (messageAt f at) w
 
   room : j .messages / 64 < length (j .due)
   room = omega (arith, g .short, g .spaced, g .words)
 
-  noted-now : dueAt (on .due) (j .messages) ≡ w .done
-  unfolding on judgedOn
+  pub noted-now : dueAt (on .due) (j .messages) ≡ w .done
+  unfolding judgedOn
   noted-now = noted-same (j .due) (j .messages) room (w .done) (g .clear (j .messages) (omega arith))
 
-  noted-before : (i : ℕ) → i < j .messages → dueAt (on .due) i ≡ dueAt (j .due) i
-  unfolding on judgedOn
+  pub noted-before : (i : ℕ) → i < j .messages → dueAt (on .due) i ≡ dueAt (j .due) i
+  unfolding judgedOn
   noted-before i l = noted-other (j .due) (j .messages) room i (w .done) (λ q. omega (arith, q))
 
-  noting-on : Noting f (nextHeader (dataEnd f at)) on
-  unfolding on judgedOn
+  pub noting-on : Noting f (nextHeader (dataEnd f at)) on
+  unfolding judgedOn
   noting-on =
       record {
         short = g .short;
@@ -145,7 +131,7 @@ module _ (f : List ℕ) (size at : ℕ) (j : Judged) (memory : List ℕ) (same :
   next = judgedOn j m u
 
   taken-last : Taken f at j memory (m ∷ []) next
-  unfolding takeAll writtenFrom judgedOn v on
+  unfolding takeAll writtenFrom judgedOn
   taken-last =
       record {
         keeps = noted-before g inside u;
@@ -159,7 +145,7 @@ module _ (f : List ℕ) (size at : ℕ) (j : Judged) (memory : List ℕ) (same :
 
   taken-more : (rest : List Message) (r : Judged)
       → Taken f (nextHeader (dataEnd f at)) next (effect memory m (u .done)) rest r → Taken f at j memory (m ∷ rest) r
-  unfolding judgedOn v on
+  unfolding judgedOn
   taken-more rest r t =
       let wrote : writtenFrom (suc (length rest)) f at (r .due) (j .messages) memory
       ≡ writtenFrom (length rest) f (nextHeader (dataEnd f at)) (r .due) (j .messages + 1) (effect memory m (u .done)) =
@@ -182,7 +168,7 @@ taken-of : (f : List ℕ) (size n at : ℕ) (j : Judged) (memory : List ℕ) (ms
     → judgedFrom n f size (nextHeader (dataEnd f at)) j′ .refusal ≡ 0
     → Taken f (nextHeader (dataEnd f at)) j′ mem rest (judgedFrom n f size (nextHeader (dataEnd f at)) j′))
     → Taken f at j memory ms (judgedFrom (suc n) f size at j)
-unfolding v on refusedAt
+unfolding refusedAt
 taken-of f size n at j memory ms same g h r ih =
     rw (h .is) (go (eqb (w .refusal) 0) refl (follows (field f (at + 23) 1)) refl)
   where
@@ -225,7 +211,7 @@ not-taken-of : (f : List ℕ) (size n at : ℕ) (j : Judged) (memory : List ℕ)
     (judgedFrom n f size (nextHeader (dataEnd f at)) j′ .messages))
     → takeAll (tallyBy j memory) (j .messages) ms
     ≡ wrong (judgedFrom (suc n) f size at j .refusal) (judgedFrom (suc n) f size at j .messages)
-unfolding v refusedAt judgedOn
+unfolding refusedAt judgedOn
 not-taken-of f size n at j memory ms same h ne ih =
     rw (h .is) (go (eqb (w .refusal) 0) refl (follows (field f (at + 23) 1)) refl)
   where
@@ -306,115 +292,3 @@ unfolding judgedFrom refusedAt
 judged-cut f size zero at j e = λ q. omega (arith, q)
 judged-cut f size (suc n) at j e =
     judged-cut-of f size n at j e (λ j′ q. judged-cut f size n (nextHeader (dataEnd f at)) j′ q)
-
--- ---- a frame whose messages all close their transaction
-
--- judged: every one completes its transaction, and the table stays
-abbrev pub judgedBy : Closing → List Open → List ℕ → Judged
-judgedBy c table due = record {
-  refusal = 0;
-  messages = c .messages;
-  bytes = c .bytes;
-  completed = c .messages;
-  lowest = c .lowest;
-  closed = c .closed;
-  table = table;
-  due = due;
-}
-
-pub record Closed (table : List Open) (r : Closing) (j : Judged) : Type 0 where
-  pub due : List ℕ
-  pub is : j ≡ judgedBy r table due
-  pub few : r .messages ≤ 375
-  pub all-due : (i : ℕ) → i < r .messages → dueAt due i ≡ true
-
-abbrev pub AllDue : List ℕ → ℕ → Type 0
-AllDue due n = (i : ℕ) → i < n → dueAt due i ≡ true
-
-module _ (f : List ℕ) (size : ℕ) (table : List Open) (at : ℕ) (c : Closing) (due : List ℕ)
-    (g : Noting f at (judgedBy c table due)) (all : AllDue due (c .messages)) (inside : dataEnd f at ≤ length f)
-    (yes′ : closes (closing-verdict f size table at c) (getD table (messageAt f at .trans % 32) free) ≡ true) where
-  abbrev cv : Verdict
-  cv = closing-verdict f size table at c
-
-  parts : (cv .refusal ≡ 0) × (cv .done ≡ true) × (cv .slot ≡ getD table (messageAt f at .trans % 32) free)
-  parts = closes-parts cv (getD table (messageAt f at .trans % 32) free) yes′
-
-  due-on : List ℕ
-  due-on = notedOf due (c .messages) (cv .done)
-
-  closed-on : judgedOn (judgedBy c table due) (messageAt f at) cv ≡ judgedBy (closingOn c (messageAt f at) cv) table due-on
-  unfolding judgedOn closingOn after due-on
-  closed-on =
-      let stays : set table (messageAt f at .trans % 32) (cv .slot) ≡ table =
-      rw (parts .2) (set-getD table (messageAt f at .trans % 32) free) in
-      let one : cond {A = ℕ} (cv .done) 1 0 ≡ 1 = rw (parts .1) in
-      rw (stays, one)
-
-  all-on : AllDue due-on (c .messages + 1)
-  unfolding due-on on judgedOn
-  all-on i l = go (decLe (c .messages) i)
-    where
-      go : Dec (c .messages ≤ i) → dueAt due-on i ≡ true
-      go (yes h) =
-          let e : i ≡ c .messages = omega (arith, l, h) in
-          ap (dueAt due-on) e ∙ noted-now g inside cv ∙ parts .1
-      go (no h) = noted-before g inside cv i (omega (arith, h)) ∙ all i (omega (arith, h))
-
-closed-of : (f : List ℕ) (size n : ℕ) (table : List Open) (at : ℕ) (c : Closing) (due : List ℕ)
-    → Noting f at (judgedBy c table due) → AllDue due (c .messages) → closingFrom (suc n) f size table at c .messages ≢ 0
-    → ((c′ : Closing) (due′ : List ℕ) → Noting f (nextHeader (dataEnd f at)) (judgedBy c′ table due′) → AllDue due′ (c′ .messages)
-    → closingFrom n f size table (nextHeader (dataEnd f at)) c′ .messages ≢ 0
-    → Closed table (closingFrom n f size table (nextHeader (dataEnd f at)) c′)
-    (judgedFrom n f size (nextHeader (dataEnd f at)) (judgedBy c′ table due′)))
-    → Closed table (closingFrom (suc n) f size table at c) (judgedFrom (suc n) f size at (judgedBy c table due))
-unfolding on closingOn
-closed-of f size n table at c due g all some-found ih = past (decLe (dataEnd f at) (length f))
-  where
-    Done : Type 0
-    Done = Closed table (closingFrom (suc n) f size table at c) (judgedFrom (suc n) f size at (judgedBy c table due))
-
-    w : Verdict
-    w = closing-verdict f size table at c
-
-    o : Open
-    o = getD table (messageAt f at .trans % 32) free
-
-    none-found : closingFrom (suc n) f size table at c ≡ noneClosing → Done
-    none-found e = absurd (some-found (ap (λ (r : Closing). r .messages) e))
-
-    go : dataEnd f at ≤ length f → (a : Bool) → closes w o ≡ a → (b : Bool) → follows (field f (at + 23) 1) ≡ b → Done
-    go inside false y b z = none-found (closing-stops f size table at c n inside y)
-    go inside true y false z =
-        let p = parts f size table at c due g all inside y in
-        record {
-          due = due-on f size table at c due g all inside y;
-          is =
-              judged-last f size at (judgedBy c table due) n inside (p .0) z
-              ∙ closed-on f size table at c due g all inside y
-              ∙ ap (λ (r : Closing). judgedBy r table (due-on f size table at c due g all inside y))
-              (sym (closing-last f size table at c n inside y z));
-          few = rw (closing-last f size table at c n inside y z) (omega (arith, g .short, g .spaced));
-          all-due = rw (closing-last f size table at c n inside y z) (all-on f size table at c due g all inside y);
-        }
-    go inside true y true z =
-        let p = parts f size table at c due g all inside y in
-        let e = closed-on f size table at c due g all inside y in
-        let q = closing-more f size table at c n inside y z in
-        let r = judged-more f size at (judgedBy c table due) n inside (p .0) z in
-        rw (q, r, e) (ih (closingOn c (messageAt f at) w) (due-on f size table at c due g all inside y)
-        (rw e at (noting-on g inside w)) (all-on f size table at c due g all inside y)
-        (λ k. some-found (ap (λ (r : Closing). r .messages) q ∙ k)))
-
-    past : Dec (dataEnd f at ≤ length f) → Done
-    past (yes h) = go h (closes w o) refl (follows (field f (at + 23) 1)) refl
-    past (no h) = none-found (closing-past f size table at c (suc n) (omega arith))
-
-pub closed-all : (f : List ℕ) (size turns : ℕ) (table : List Open) (at : ℕ) (c : Closing) (due : List ℕ)
-    → Noting f at (judgedBy c table due) → AllDue due (c .messages) → closingFrom turns f size table at c .messages ≢ 0
-    → Closed table (closingFrom turns f size table at c) (judgedFrom turns f size at (judgedBy c table due))
-unfolding closingFrom
-closed-all f size zero table at c due g all some-found = absurd (some-found refl)
-closed-all f size (suc n) table at c due g all some-found =
-    closed-of f size n table at c due g all some-found
-    (λ c′ due′ k a s. closed-all f size n table (nextHeader (dataEnd f at)) c′ due′ k a s)

@@ -2,13 +2,12 @@
 -- Assumes nothing.
 use mathlib.Core.Path.{_≡_, refl, sym, ap, _∙_}
 use mathlib.Core.Logic.{_≢_}
-use mathlib.Core.Bool.{true, false, cond}
+use mathlib.Core.Bool.{true, false}
 use mathlib.Core.List.{List}
 use mathlib.Core.Option.{Option, none, some}
-use Prim.Native.Nat.{ℕ, _+_, _≤_, _<_}
+use Prim.Native.Nat.{ℕ, _≤_, _<_}
 use native.Mathlib.Nat.{zero-add}
 use native.Mathlib.Omega.{arith}
-use lib.Dec.{eqb}
 use lib.ListN.{length, replicate}
 use Rattle.marks.specs.Marks.{mark}
 use Rattle.wire.specs.Format.{Message}
@@ -44,20 +43,18 @@ use Rattle.judging.specs.declared.Judged.{Judged}
 use Rattle.judging.specs.declared.Closing.{Closing}
 use Rattle.judging.specs.Judging.{noneJudged, leftBy, judgedFrom, judgedOf, closingOf}
 use Rattle.judging.proofs.Judging.{judged-short, closing-short}
-use Rattle.depositing.specs.Depositing.{dueAt, writtenFrom, writtenOf}
+use Rattle.depositing.specs.Depositing.{writtenFrom, writtenOf}
 use Rattle.depositing.proofs.Depositing.{written-short, written-alike}
 use Rattle.reception.specs.Reception.{Awaited, acceptedPair, refusedWith}
-use Rattle.reception.proofs.Dues.{none-noted, allDue, all-noted}
+use Rattle.reception.proofs.Dues.{allDue, all-noted}
 use Rattle.reception.proofs.Passes.{
   tallyBy,
   noting-start,
   taken-all,
   not-taken-all,
   judged-cut,
-  judgedBy,
-  Closed,
-  closed-all,
 }
+use Rattle.reception.proofs.Closings.{judgedBy, Closed, closed-all}
 
 -- ---- a frame with messages whose header is in order
 

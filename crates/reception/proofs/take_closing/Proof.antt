@@ -1,6 +1,6 @@
 -- `reception::take_closing`: all messages written, the window moved, and the table as it was.
 -- Assumes nothing.
-use mathlib.Core.Path.{refl, sym, ap, _∙_}
+use mathlib.Core.Path.{sym, ap, _∙_}
 use Rattle.host.specs.Host.{Received, steppedOf}
 use Rattle.reception.proofs.Receiving.{new-closed}
 use borrow.Author.Needs.{needs}
