@@ -2,10 +2,10 @@
 -- lowest frame not released is the oldest held one, and a part is handed out exactly where the number of the refusal is 0.
 -- Assumes nothing.
 use Prim.Native.Nat.{ℕ, zero, suc, _+_, _-_, _*_, _/_, _%_, _^_, _≤_, _<_}
-use native.Mathlib.Nat.{add-zero, div-le-self, le-refl}
+use native.Mathlib.Nat.{add-zero}
 use native.Mathlib.Decide.{decLt, ℕ-discrete}
 use native.Mathlib.Omega.{arith}
-use mathlib.Core.Path.{_≡_, refl, sym, ap, _∙_}
+use mathlib.Core.Path.{_≡_, refl, sym, _∙_}
 use mathlib.Core.Logic.{_≢_, _⊎_, inl, inr}
 use mathlib.Core.Bool.{Bool, true, false}
 use mathlib.Core.List.{List}
@@ -13,17 +13,17 @@ use borrow.Author.Tests.{eqb-true, eqb-false, ltb-true, leb-false, lt-ltb, le-lt
 use lib.Dec.{eqb, ltb}
 use lib.ListN.{length, getD, set, replicate, length-set}
 use lib.Seq.{getD-set-same, getD-set-other, length-take-le}
-use Rattle.seq.specs.Ring.{frameSpace, transSpace, distance, advance, inRange}
+use Rattle.seq.specs.Ring.{frameSpace, distance, advance}
 use Rattle.marks.specs.Marks.{mark, leadingOnes, marksOf}
 use Rattle.marks.proofs.Marks.{
-  leading-stops,
-  leading-fails,
-  mark-shift,
-  mark-past,
   mark-of-zero,
   mark-marksOf,
   mark-marksOf-beyond,
   marksOf-lt,
+  moved-lt,
+  moved-clear,
+  run-most,
+  moved-past,
 }
 use Rattle.wire.specs.Format.{needed, frameMost}
 use Rattle.wire.proofs.Format.{needed-pos, next-form}
@@ -56,6 +56,7 @@ use Rattle.sendings.specs.Sendings.{
   passing,
   finishing,
 }
+use Rattle.sendings.proofs.Adding.{takes-lacks}
 use Rattle.wire.specs.Reading.{addressed, readFrame, refusalOf, ackStart, ackCount}
 use Rattle.send_window.proofs.Window.{none-before-held, oldest-base, held-near}
 use Rattle.card.specs.declared.Card.{Card}
@@ -81,34 +82,8 @@ use Rattle.card.specs.Card.{
   chooseRefusal,
   chooseNext,
 }
-use Rattle.card.proofs.Slots.{both, limit-least, limit-most, buffer-long, Addable, addable, room-in, frame-in, slot-long}
+use Rattle.card.proofs.Slots.{limit-least, limit-most, buffer-long, Addable, addable, room-in, frame-in, slot-long}
 use Rattle.card.specs.Reachable.{InOrder, Counted, Orderly, Building, Reachable}
-
--- ---- a word of marks that moves past those it starts with
-
--- none of its marks is set at or past a count
-module _ (width count word : ℕ) (fits : word < 2 ^ width) (past : (i : ℕ) → count ≤ i → mark word i ≡ false) where
-  run : ℕ
-  run = leadingOnes width word
-
-  run-most : run ≤ count
-  unfolding run leadingOnes
-  run-most = leading-fails (mark word) width count (past count (le-refl count))
-
-  moved-lt : word / 2 ^ run < 2 ^ width
-  moved-lt = omega (arith, div-le-self word (2 ^ run))
-
-  moved-past : (i : ℕ) → count - run ≤ i → mark (word / 2 ^ run) i ≡ false
-  moved-past i h = mark-shift word run i ∙ past (run + i) (omega (arith, run-most))
-
-  -- it starts with a clear one then
-  moved-clear : mark (word / 2 ^ run) 0 ≡ false
-  unfolding run leadingOnes
-  moved-clear = mark-shift word run 0 ∙ ap (mark word) (add-zero run) ∙ go (decLt run width)
-    where
-      go : Dec (run < width) → mark word run ≡ false
-      go (yes h) = leading-stops (mark word) width h
-      go (no h) = mark-past width word run fits (omega arith)
 
 -- ---- the window
 
@@ -202,26 +177,26 @@ module _ (w : SendWindow) (limit start count : ℕ) (k : InOrder w limit) where
   marked-fits = marksOf-lt 64 (acknowledgedBy w start count)
 
   abbrev released : ℕ
-  released = run 64 (unreleased w) marked marked-fits marked-past
+  released = leadingOnes 64 marked
 
   released-most : released ≤ unreleased w
-  released-most = run-most 64 (unreleased w) marked marked-fits marked-past
+  released-most = run-most 64 (unreleased w) marked marked-past
 
   fewer : unreleased (acknowledging w start count) ≡ unreleased w - released
-  unfolding acknowledging releasing distance advance marked run
+  unfolding acknowledging releasing distance advance marked
   fewer = omega (arith, k .next-fits, k .base-fits, released-most)
 
   acknowledging-keeps : InOrder (acknowledging w start count) limit
-  unfolding acknowledging releasing advance marked run
+  unfolding acknowledging releasing advance marked
   acknowledging-keeps =
       record {
         next-fits = k .next-fits;
         base-fits = omega arith;
-        acked-fits = moved-lt 64 (unreleased w) marked marked-fits marked-past;
+        acked-fits = moved-lt 64 marked marked-fits;
         slots = k .slots;
         few = omega (arith, fewer, k .few);
-        unsealed-clear = λ i h. moved-past 64 (unreleased w) marked marked-fits marked-past i (omega (arith, fewer));
-        lowest-clear = moved-clear 64 (unreleased w) marked marked-fits marked-past;
+        unsealed-clear = λ i h. moved-past 64 (unreleased w) marked marked-past i (omega (arith, fewer));
+        lowest-clear = moved-clear 64 marked marked-fits;
         sizes-least = λ i h. rw (slot i) (k .sizes-least (released + i) (omega (arith, fewer, released-most)));
         sizes-most = k .sizes-most;
       }
@@ -293,7 +268,7 @@ opening-keeps s count target value o room c t v =
     one-more = omega (arith, o .next-fits, o .lowest-fits, room)
 
 adding-keeps : (s : Sendings) (t frame : ℕ) → Orderly s → frame < frameSpace → Orderly (adding s t frame)
-unfolding adding takes
+unfolding adding
 adding-keeps s t frame o f = go (takes s t) refl
   where
     e : Sending
@@ -301,9 +276,7 @@ adding-keeps s t frame o f = go (takes s t) refl
 
     more : takes s t ≡ true → Counted (oneMore e frame)
     more z =
-        let l : e .added < needed (e .count) =
-        ltb-true (e .added) (needed (e .count))
-        (both (inRange transSpace (s .lowest .0) (opened s) t) (ltb (e .added) (needed (e .count))) z .1) in
+        let l : e .added < needed (e .count) = takes-lacks s t z in
         let k : Counted e = o .each (t % 32) in
         record {
           added-most = omega arith;
@@ -346,24 +319,24 @@ module _ (s : Sendings) (base next : ℕ) (o : Orderly s) where
   ended-fits = marksOf-lt 32 (finishedBy s base next)
 
   abbrev gone : ℕ
-  gone = run 32 (opened s) ended ended-fits ended-past
+  gone = leadingOnes 32 ended
 
   less-open : opened (finishing s base next) ≡ opened s - gone
-  unfolding finishing passing distance advance ended run
-  less-open = omega (arith, o .next-fits, o .lowest-fits, run-most 32 (opened s) ended ended-fits ended-past)
+  unfolding finishing passing distance advance ended
+  less-open = omega (arith, o .next-fits, o .lowest-fits, run-most 32 (opened s) ended ended-past)
 
   finishing-keeps : Orderly (finishing s base next)
-  unfolding finishing passing advance ended run
+  unfolding finishing passing advance ended
   finishing-keeps =
       record {
         next-fits = o .next-fits;
         lowest-fits = omega arith;
-        finished-fits = moved-lt 32 (opened s) ended ended-fits ended-past;
+        finished-fits = moved-lt 32 ended ended-fits;
         places = o .places;
         each = o .each;
         few = omega (arith, less-open, o .few);
-        unopened-clear = λ i h. moved-past 32 (opened s) ended ended-fits ended-past i (omega (arith, less-open));
-        lowest-clear = moved-clear 32 (opened s) ended ended-fits ended-past;
+        unopened-clear = λ i h. moved-past 32 (opened s) ended ended-past i (omega (arith, less-open));
+        lowest-clear = moved-clear 32 ended ended-fits;
       }
 
 -- ---- opening

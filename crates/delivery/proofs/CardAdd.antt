@@ -6,9 +6,9 @@ use native.Mathlib.Decide.{ℕ-discrete}
 use native.Mathlib.Omega.{arith}
 use mathlib.Core.Path.{_≡_, refl, sym, ap, _∙_, subst}
 use mathlib.Core.Logic.{_≢_}
-use mathlib.Core.Bool.{Bool, true, false, true≢false, _&&_}
+use mathlib.Core.Bool.{true, false}
 use mathlib.Core.List.{List, [], _∷_, _++_, map, map-append}
-use borrow.Author.Tests.{ltb-true, ltb-false, leb-false, eq-eqb}
+use borrow.Author.Tests.{ltb-false, leb-false, eq-eqb}
 use lib.Dec.{ltb, lit<}
 use lib.ListN.{length, getD, set, take, length-set}
 use lib.Seq.{take-all}
@@ -17,7 +17,8 @@ use Rattle.seq.proofs.Ring.{latest-is, same-count}
 use Rattle.wire.specs.Format.{Message, needed}
 use Rattle.send_window.specs.Window.{unreleased}
 use Rattle.sendings.specs.declared.Sending.{Sending}
-use Rattle.sendings.specs.Sendings.{noSending, opened, sendingAt, takes, oneMore, adding}
+use Rattle.sendings.specs.Sendings.{noSending, opened, sendingAt, oneMore, adding}
+use Rattle.sendings.proofs.Adding.{takes-opened, takes-lacks}
 use Rattle.sendings.proofs.Finishing.{taking-is}
 use Rattle.card.specs.declared.Card.{Card}
 use Rattle.card.specs.Card.{fits, headerPlace, addRefusal, messageOf, builtSlots, withMessage, addMessage}
@@ -53,14 +54,6 @@ use Rattle.delivery.proofs.CardFor.{
   terms-same,
 }
 
-pub and-left : (x y : Bool) → (x && y) ≡ true → x ≡ true
-and-left true y e = refl
-and-left false y e = absurd (true≢false (sym e))
-
-pub and-right : (x y : Bool) → (x && y) ≡ true → y ≡ true
-and-right true y e = e
-and-right false y e = absurd (true≢false (sym e))
-
 -- the slots of two frames less than 64 apart
 pub slots-differ64 : (a i t : ℕ) → a ≤ i → i < t → t < a + 64 → i % 64 ≢ t % 64
 slots-differ64 a i t h₁ h₂ h₃ q = let z : i ≡ t = same-count 64 (lit< tt) i t (omega arith) (omega arith) q in omega arith
@@ -88,17 +81,10 @@ module _ (c : Card) (slots : List ℕ) (b : Book) (r : CardFor c slots b) (s : S
   total = length (b .transactions)
 
   in-range : inRange transSpace (c .sendings .lowest .0) (opened (c .sendings)) t ≡ true
-  unfolding takes
-  in-range =
-      and-left (inRange transSpace (c .sendings .lowest .0) (opened (c .sendings)) t) (ltb (told .added) (needed (told .count)))
-      (may .takes-more)
+  in-range = takes-opened (c .sendings) t (may .takes-more)
 
   few : told .added < needed (told .count)
-  unfolding takes
-  few =
-      ltb-true (told .added) (needed (told .count))
-      (and-right (inRange transSpace (c .sendings .lowest .0) (opened (c .sendings)) t) (ltb (told .added) (needed (told .count)))
-      (may .takes-more))
+  few = takes-lacks (c .sendings) t (may .takes-more)
 
   meant : (i < total) × (i % transSpace ≡ t)
   meant =

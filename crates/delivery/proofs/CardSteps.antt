@@ -5,7 +5,7 @@ use native.Mathlib.Nat.{mod-lt}
 use native.Mathlib.Omega.{arith}
 use mathlib.Core.Path.{_≡_, refl, ap, _∙_, subst}
 use mathlib.Core.Logic.{_⊎_, inl, inr}
-use mathlib.Core.Bool.{Bool, true, false, cond, not, _&&_, _||_}
+use mathlib.Core.Bool.{Bool, true, false, cond, not, _&&_, _||_, and-eq-true-iff}
 use mathlib.Core.List.{List, [], _∷_, _++_}
 use mathlib.Core.Option.{Option, some}
 use borrow.Author.Tests.{eqb-true, ltb-true, leb-true}
@@ -63,7 +63,7 @@ use Rattle.delivery.specs.Demand3.{typed, ackInTime, inTime}
 use Rattle.delivery.proofs.Along.{along-more, Found, along-at}
 use Rattle.delivery.proofs.Steps.{sound-opening, sound-sealing, sound-handing, withAdded, accepted-sealed}
 use Rattle.delivery.proofs.CardFor.{SlotFor, framed, open-room, open-done, open-refused, card-opened}
-use Rattle.delivery.proofs.CardAdd.{and-left, and-right, e, entered, added-sound, add-done, fits-slot, card-added}
+use Rattle.delivery.proofs.CardAdd.{e, entered, added-sound, add-done, fits-slot, card-added}
 use Rattle.delivery.proofs.CardSeal.{
   card-alike,
   built-some,
@@ -106,11 +106,9 @@ module _ (cardId hostId : ℕ) (cardFits : cardId < frameSpace) (hostFits : host
     where
       fit : (count < frameSpace) × (target < transSpace) × (value < transSpace)
       fit =
-          let both = and-right (ltb count 65536) (ltb target transSpace && ltb value transSpace) t in (
-            ltb-true count 65536 (and-left (ltb count 65536) (ltb target transSpace && ltb value transSpace) t),
-            ltb-true target transSpace (and-left (ltb target transSpace) (ltb value transSpace) both),
-            ltb-true value transSpace (and-right (ltb target transSpace) (ltb value transSpace) both),
-          )
+          let all = and-eq-true-iff (ltb count 65536) (ltb target transSpace && ltb value transSpace) .0 t in
+          let rest = and-eq-true-iff (ltb target transSpace) (ltb value transSpace) .0 (all .1) in
+          (ltb-true count 65536 (all .0), ltb-true target transSpace (rest .0), ltb-true value transSpace (rest .1))
 
       go : (y : Bool) → ltb (opened (c .sendings)) 32 ≡ y → Keeps (opens count target value)
       go true q =
@@ -139,10 +137,10 @@ module _ (cardId hostId : ℕ) (cardFits : cardId < frameSpace) (hostFits : host
   step-adds t at bytes ty = go (eqb (addRefusal c slots t bytes) 0) refl
     where
       t-fits : t < transSpace
-      t-fits = ltb-true t transSpace (and-left (ltb t transSpace) (ltb at transSpace) ty)
+      t-fits = ltb-true t transSpace (and-eq-true-iff (ltb t transSpace) (ltb at transSpace) .0 ty .0)
 
       at-fits : at < transSpace
-      at-fits = ltb-true at transSpace (and-right (ltb t transSpace) (ltb at transSpace) ty)
+      at-fits = ltb-true at transSpace (and-eq-true-iff (ltb t transSpace) (ltb at transSpace) .0 ty .1)
 
       added : addRefusal c slots t bytes ≡ 0 → Keeps (adds t at bytes)
       added ok =

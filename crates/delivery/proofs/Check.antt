@@ -5,7 +5,7 @@ use Prim.Native.Nat.{ℕ, zero, suc, _+_, _*_, _<_}
 use native.Mathlib.Omega.{arith}
 use mathlib.Core.Path.{_≡_, refl, sym, subst}
 use mathlib.Core.Logic.{_⊎_, inl, inr}
-use mathlib.Core.Bool.{Bool, true, false, true≢false, _&&_, _||_}
+use mathlib.Core.Bool.{Bool, true, false, _&&_, _||_, and-eq-true-iff}
 use mathlib.Core.List.{List, [], _∷_, List·Memᴰ, List·Memᴰ·cases-cons, List·Memᴰ·not-nil}
 use borrow.Author.Tests.{leb-true, eqb-true}
 use lib.Dec.{leb, eqb, lit<}
@@ -28,10 +28,6 @@ use Rattle.delivery.specs.Demand3.{
 
 -- ---- tests and what they show
 
-both : (x y : Bool) → (x && y) ≡ true → (x ≡ true) × (y ≡ true)
-both true y e = (refl, e)
-both false y e = absurd (true≢false (sym e))
-
 unfoldable pub every : {A : Type 0} → (A → Bool) → List A → Bool
 every p [] = true
 every p (x ∷ xs) = p x && every p xs
@@ -39,10 +35,10 @@ every p (x ∷ xs) = p x && every p xs
 every-by : {A : Type 0} (p : A → Bool) (xs : List A) → every p xs ≡ true → (x : A) → List·Memᴰ x xs → p x ≡ true
 unfolding every
 every-by p [] e x m = absurd (List·Memᴰ·not-nil m)
-every-by p (y ∷ ys) e x m = go (every-by p ys (both (p y) (every p ys) e .1) x) (List·Memᴰ·cases-cons m)
+every-by p (y ∷ ys) e x m = go (every-by p ys (and-eq-true-iff (p y) (every p ys) .0 e .1) x) (List·Memᴰ·cases-cons m)
   where
     go : (List·Memᴰ x ys → p x ≡ true) → (x ≡ y) ⊎ List·Memᴰ x ys → p x ≡ true
-    go r (inl q) = subst (λ z. p z ≡ true) (sym q) (both (p y) (every p ys) e .0)
+    go r (inl q) = subst (λ z. p z ≡ true) (sym q) (and-eq-true-iff (p y) (every p ys) .0 e .0)
     go r (inr k) = r k
 
 unfoldable pub below : (ℕ → Bool) → ℕ → Bool
@@ -52,9 +48,9 @@ below p (suc n) = p 0 && below (λ i. p (suc i)) n
 below-by : (p : ℕ → Bool) (n : ℕ) → below p n ≡ true → (i : ℕ) → i < n → p i ≡ true
 unfolding below
 below-by p zero e i h = absurd (omega arith)
-below-by p (suc n) e zero h = both (p 0) (below (λ i. p (suc i)) n) e .0
+below-by p (suc n) e zero h = and-eq-true-iff (p 0) (below (λ i. p (suc i)) n) .0 e .0
 below-by p (suc n) e (suc i) h =
-    below-by (λ i. p (suc i)) n (both (p 0) (below (λ i. p (suc i)) n) e .1) i (omega arith)
+    below-by (λ i. p (suc i)) n (and-eq-true-iff (p 0) (below (λ i. p (suc i)) n) .0 e .1) i (omega arith)
 
 -- ---- writes with no byte in common
 
@@ -73,7 +69,7 @@ apartFrom-by : (w : Write) (vs : List Write) → every (apart w) vs ≡ true →
 unfolding every
 apartFrom-by w [] e = tt
 apartFrom-by w (v ∷ vs) e =
-    let b = both (apart w v) (every (apart w) vs) e in
+    let b = and-eq-true-iff (apart w v) (every (apart w) vs) .0 e in
     (apart-by w v (b .0), apartFrom-by w vs (b .1))
 
 abbrev pub allApart : List Write → List Write → Bool
@@ -83,7 +79,7 @@ allApart-by : (ws vs : List Write) → allApart ws vs ≡ true → AllApart ws v
 unfolding every
 allApart-by [] vs e = tt
 allApart-by (w ∷ ws) vs e =
-    let b = both (every (apart w) vs) (allApart ws vs) e in
+    let b = and-eq-true-iff (every (apart w) vs) (allApart ws vs) .0 e in
     (apartFrom-by w vs (b .0), allApart-by ws vs (b .1))
 
 unfoldable pub noByteTwice : List Write → Bool
@@ -94,7 +90,7 @@ noByteTwice-by : (ws : List Write) → noByteTwice ws ≡ true → NoByteTwice w
 unfolding noByteTwice
 noByteTwice-by [] e = tt
 noByteTwice-by (w ∷ ws) e =
-    let b = both (every (apart w) ws) (noByteTwice ws) e in
+    let b = and-eq-true-iff (every (apart w) ws) (noByteTwice ws) .0 e in
     (apartFrom-by w ws (b .0), noByteTwice-by ws (b .1))
 
 -- ---- the premise on writes
@@ -118,9 +114,9 @@ module _ (b : Book) where
   pub allowed-by : writesAllowed ≡ true → WritesAllowed b
   unfolding writesAllowed
   allowed-by e =
-      let h = both _ _ e in
-      let k = both _ _ (h .0) in
-      let l = both _ _ (h .1) in
+      let h = and-eq-true-iff _ _ .0 e in
+      let k = and-eq-true-iff _ _ .0 (h .0) in
+      let l = and-eq-true-iff _ _ .0 (h .1) in
       record {
         dataInside = λ x m. leb-true _ _ (every-by dataIn (addedMessages b) (k .0) x m);
         completionInside = λ x m. leb-true _ _ (every-by completionIn (b .transactions) (k .1) x m);
@@ -154,10 +150,10 @@ pub applied : (e : Implementation) → Demand3For e → (memory : List ℕ) (eve
     → Guarantees (outcomeOf (runs e memory events .system)) (booked e memory events)
 unfolding Demand3For passes
 applied e d memory events p =
-    let g = both _ _ p in
-    let o = both _ _ (g .0) in
-    let t = both _ _ (g .1) in
-    let k = both _ _ (t .1) in
+    let g = and-eq-true-iff _ _ .0 p in
+    let o = and-eq-true-iff _ _ .0 (g .0) in
+    let t = and-eq-true-iff _ _ .0 (g .1) in
+    let k = and-eq-true-iff _ _ .0 (t .1) in
     d 2 1 64 slots₀ memory events
     (record {
       cardFits = lit< tt;

@@ -4,7 +4,7 @@ use Prim.Native.Nat.{ℕ, _+_, _%_, _<_}
 use native.Mathlib.Nat.{mod-lt, not-suc-le-zero}
 use native.Mathlib.Omega.{arith}
 use mathlib.Core.Path.{_≡_, refl, sym, _∙_, subst}
-use mathlib.Core.Bool.{Bool, true, false, cond, _||_}
+use mathlib.Core.Bool.{Bool, true, false, cond, _||_, and-eq-true-iff}
 use mathlib.Core.List.{List, [], _∷_, List·Memᴰ·not-nil}
 use lib.Dec.{eqb, lit<}
 use lib.ListN.{length, length-replicate, getD-replicate}
@@ -71,7 +71,6 @@ use Rattle.delivery.proofs.AllFinished.{whole-memory, whole-complete, w
 use Rattle.delivery.proofs.Earlier.{allowed-before}
 use Rattle.delivery.proofs.HostStep.{place, fullAt, full-beyond}
 use Rattle.delivery.proofs.CardFor.{unreleased-is, unopened}
-use Rattle.delivery.proofs.CardAdd.{and-left, and-right}
 use Rattle.delivery.proofs.Agree.{SystemFor}
 use Rattle.delivery.proofs.CardSteps.{step-opens, step-adds, step-seals, step-reads, step-shows, step-chooses}
 use Rattle.delivery.proofs.Receive.{step-receives}
@@ -119,11 +118,12 @@ module _ (cardId hostId : ℕ) (cardFits : cardId < frameSpace) (hostFits : host
       let s = step e w x in
       let later = run e (s .system) xs .observations in
       let b′ = bookStep b (s .observation) in
-      let now = and-left (inTime b (s .observation .event)) (notTooLate b′ later) i in
+      let timely = and-eq-true-iff (inTime b (s .observation .event)) (notTooLate b′ later) .0 i in
+      let fitting = and-eq-true-iff (typed x) (allTyped xs) .0 t in
       all-steps e h xs (s .system) b′
-      (h w b f x (and-left (typed x) (allTyped xs) t)
-      (subst (λ (y : Event). inTime b y ≡ true) (seen-event e w x) now) (allowed-before b′ later k))
-      (and-right (typed x) (allTyped xs) t) (and-right (inTime b (s .observation .event)) (notTooLate b′ later) i) k
+      (h w b f x (fitting .0)
+      (subst (λ (y : Event). inTime b y ≡ true) (seen-event e w x) (timely .0)) (allowed-before b′ later k))
+      (fitting .1) (timely .1) k
 
   -- what agreement comes to
   guaranteed : (w : System) (b : Book) → For w b → Guarantees (outcomeOf w) b

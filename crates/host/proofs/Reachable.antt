@@ -5,7 +5,6 @@ use mathlib.Core.Logic.{_≢_, _⊎_, inl, inr}
 use mathlib.Core.Bool.{Bool, true, false, true≢false}
 use mathlib.Core.List.{List, [], _∷_}
 use Prim.Native.Nat.{ℕ, zero, suc, _+_, _-_, _/_, _%_, _^_, _≤_, _<_}
-use native.Mathlib.Nat.{add-zero, div-le-self}
 use native.Mathlib.Decide.{decLe, decLt}
 use native.Mathlib.Omega.{arith}
 use borrow.Author.Tests.{eqb-true, eqb-false}
@@ -15,12 +14,13 @@ use lib.Seq.{getD-set-same, getD-set-other}
 use Rattle.seq.specs.Ring.{distance, advance, frameSpace, transSpace}
 use Rattle.marks.specs.Marks.{mark, withMark, leadingOnes}
 use Rattle.marks.proofs.Marks.{
-  leading-stops,
   mark-shift,
   mark-past,
   mark-of-zero,
   mark-other,
   withMark-lt,
+  moved-lt,
+  moved-clear,
 }
 use Rattle.octets.specs.Octets.{Bytes}
 use Rattle.wire.specs.Format.{Message, headOf}
@@ -89,25 +89,6 @@ each-set table i o l ok all k = go (decLe k i) (decLe i k)
     go (yes h) (yes q) =
         let e : k ≡ i = omega arith in
         rw (e, getD-set-same table i o free l) ok
-
--- ---- a window that moves past the marks it starts with
-
-module _ (width word : ℕ) (fits : word < 2 ^ width) where
-  pub moved-lt : word / 2 ^ leadingOnes width word < 2 ^ width
-  moved-lt = omega (arith, div-le-self word (2 ^ leadingOnes width word))
-
-  -- it starts with a clear one then
-  pub moved-clear : mark (word / 2 ^ leadingOnes width word) 0 ≡ false
-  unfolding leadingOnes
-  moved-clear =
-      mark-shift word run 0 ∙ ap (mark word) (add-zero run) ∙ go (decLt run width)
-    where
-      run : ℕ
-      run = leadingOnes width word
-
-      go : Dec (run < width) → mark word run ≡ false
-      go (yes h) = leading-stops (mark word) width h
-      go (no h) = mark-past width word run fits (omega arith)
 
 -- ---- one message
 

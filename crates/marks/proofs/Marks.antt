@@ -2,7 +2,7 @@
 -- window of marks that moves on.
 -- Assumes nothing.
 use Prim.Native.Nat.{ℕ, zero, suc, _+_, _-_, _*_, _^_, _/_, _%_, _≤_, _<_, zero-le}
-use native.Mathlib.Nat.{not-suc-le-zero, le-refl, lt-of-lt-of-le, mod-eq-of-lt, div-eq-of-lt, div-self, div-one}
+use native.Mathlib.Nat.{add-zero, not-suc-le-zero, le-refl, lt-of-lt-of-le, mod-eq-of-lt, div-eq-of-lt, div-self, div-one, div-le-self}
 use native.Mathlib.Nat.{div-div-eq-div-mul, mul-div-cancel, one-mul, pow-suc, pow-succ'}
 use native.Mathlib.Numerals.{add-one}
 use native.Mathlib.Decide.{decLe, decLt}
@@ -342,6 +342,34 @@ module _ (width m most : ℕ) (fits : m < 2 ^ width) where
       stop : Dec (leading (mark m) width < width) → mark m (leading (mark m) width) ≡ false
       stop (yes l) = leading-stops (mark m) width l
       stop (no l) = mark-past width m (leading (mark m) width) fits (omega arith)
+
+-- ---- a word that moves past the marks it starts with
+
+module _ (width word : ℕ) (fits : word < 2 ^ width) where
+  pub moved-lt : word / 2 ^ leadingOnes width word < 2 ^ width
+  moved-lt = omega (arith, div-le-self word (2 ^ leadingOnes width word))
+
+  -- it starts with a clear one then
+  pub moved-clear : mark (word / 2 ^ leadingOnes width word) 0 ≡ false
+  unfolding leadingOnes
+  moved-clear = mark-shift word run 0 ∙ ap (mark word) (add-zero run) ∙ go (decLt run width)
+    where
+      run : ℕ
+      run = leadingOnes width word
+
+      go : Dec (run < width) → mark word run ≡ false
+      go (yes h) = leading-stops (mark word) width h
+      go (no h) = mark-past width word run fits (omega arith)
+
+-- where no mark is set at or past a count
+module _ (width count word : ℕ) (past : (i : ℕ) → count ≤ i → mark word i ≡ false) where
+  pub run-most : leadingOnes width word ≤ count
+  unfolding leadingOnes
+  run-most = leading-fails (mark word) width count (past count (le-refl count))
+
+  pub moved-past : (i : ℕ) → count - leadingOnes width word ≤ i → mark (word / 2 ^ leadingOnes width word) i ≡ false
+  moved-past i h =
+      mark-shift word (leadingOnes width word) i ∙ past (leadingOnes width word + i) (omega (arith, run-most))
 
 -- ---- a window over a test
 

@@ -2,7 +2,7 @@
 -- from the frame's end on it is as it was.
 -- Assumes nothing.
 use mathlib.Core.Path.{_≡_, refl, sym, ap, _∙_}
-use mathlib.Core.Bool.{Bool, true, false, cond, _&&_, true≢false, and-true, and-false}
+use mathlib.Core.Bool.{true, false, and-true, and-false, and-eq-true-iff}
 use mathlib.Core.List.{List, [], _∷_, _++_, append-assoc, append-nil}
 use Prim.Native.Nat.{ℕ, zero, suc, _+_, _-_, _≤_, _<_}
 use native.Mathlib.Nat.{zero-add, suc-add}
@@ -112,17 +112,13 @@ module _ (x : Message) where
 
 -- ---- in a slot
 
-both : (a b : Bool) → (a && b) ≡ true → (a ≡ true) × (b ≡ true)
-both true b e = (refl, e)
-both false b e = absurd (true≢false (sym e))
-
 pub room-slot : (slot : List ℕ) (size : ℕ) → roomFor slot size ≡ true → size ≤ length slot
 unfolding roomFor
-room-slot slot size e = leb-true size (length slot) (both (leb size (length slot)) (leb size frameMost) e .0)
+room-slot slot size e = leb-true size (length slot) (and-eq-true-iff (leb size (length slot)) (leb size frameMost) .0 e .0)
 
 pub room-frame : (slot : List ℕ) (size : ℕ) → roomFor slot size ≡ true → size ≤ frameMost
 unfolding roomFor
-room-frame slot size e = leb-true size frameMost (both (leb size (length slot)) (leb size frameMost) e .1)
+room-frame slot size e = leb-true size frameMost (and-eq-true-iff (leb size (length slot)) (leb size frameMost) .0 e .1)
 
 -- within a frame's length only the slot decides; past it there is no room
 pub room-by-slot : (slot : List ℕ) (size : ℕ) → size ≤ frameMost → leb size (length slot) ≡ roomFor slot size
