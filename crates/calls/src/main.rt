@@ -141,7 +141,7 @@ fn call_card(ends: Ends, numbers: [u32; 5], slots: &mut [u8], out: &mut [u8], at
 fn call_open(ends: Ends, numbers: [u32; 5], out: &mut [u8], at: usize) -> Done {
     let card = ends.card;
     let count = (numbers[0] % 65536) as u16;
-    let opened = card::open_transaction(card, count, numbers[1], numbers[2]);
+    let opened = assembly::open_transaction(card, count, numbers[1], numbers[2]);
     let next = opened.card;
     let trans = opened.trans;
     let used = put_result(out, at, opened.refusal, b't', trans.0 as u64);
@@ -160,7 +160,7 @@ fn call_add(
     at: usize,
 ) -> Done {
     let card = ends.card;
-    let step = card::add_message(card, slots, TransNo(numbers[0]), numbers[1], payload);
+    let step = assembly::add_message(card, slots, TransNo(numbers[0]), numbers[1], payload);
     let next = step.card;
     let used = put_done(out, at, step.refusal);
     Done {
@@ -171,7 +171,7 @@ fn call_add(
 
 fn call_seal(ends: Ends, slots: &[u8], out: &mut [u8], at: usize) -> Done {
     let card = ends.card;
-    let sealed = card::seal_frame(card, slots);
+    let sealed = assembly::seal_frame(card, slots);
     let next = sealed.card;
     let number = sealed.number;
     let used = put_result(out, at, sealed.refusal, b'f', number.0 as u64);
@@ -183,7 +183,7 @@ fn call_seal(ends: Ends, slots: &[u8], out: &mut [u8], at: usize) -> Done {
 
 fn call_read(ends: Ends, frame: &[u8], out: &mut [u8], at: usize) -> Done {
     let card = ends.card;
-    let step = card::read_acknowledgements(card, frame);
+    let step = retransmission::read_acknowledgements(card, frame);
     let next = step.card;
     let used = put_done(out, at, step.refusal);
     Done {
@@ -194,11 +194,16 @@ fn call_read(ends: Ends, frame: &[u8], out: &mut [u8], at: usize) -> Done {
 
 fn call_show(card: Card, numbers: [u32; 5], slots: &[u8], out: &mut [u8], at: usize) -> usize {
     let n = FrameNo((numbers[0] % 65536) as u16);
-    let refusal = card::show_refusal(card, slots, n);
+    let refusal = retransmission::show_refusal(card, slots, n);
     if refusal != 0 {
         return put_done(out, at, refusal);
     }
-    put_slot(out, at, card.limit, card::show_frame(card, slots, n))
+    put_slot(
+        out,
+        at,
+        card.limit,
+        retransmission::show_frame(card, slots, n),
+    )
 }
 
 // Of a part that is handed out only its bytes can be seen here: it is the lent buffer where that has 10 bytes, as the promise says.
@@ -209,11 +214,11 @@ fn call_choose<'a>(
     out: &mut [u8],
     at: usize,
 ) -> usize {
-    let refusal = card::choose_refusal(card, slots, lent);
+    let refusal = retransmission::choose_refusal(card, slots, lent);
     if refusal != 0 {
         return put_done(out, at, refusal);
     }
-    let part = card::choose_next(card, slots, lent);
+    let part = retransmission::choose_next(card, slots, lent);
     if lent.len() != 10 {
         return put_slot(out, at, card.limit, part);
     }

@@ -1,4 +1,2 @@
-pub mod Limits
 pub mod Slots
-pub mod Writing
 pub mod Reachable

@@ -7,7 +7,7 @@ use native.Mathlib.Decide.{decLt}
 use native.Mathlib.Omega.{arith}
 use mathlib.Core.Path.{_≡_, refl, sym, ap, _∙_}
 use mathlib.Core.Logic.{_≢_}
-use mathlib.Core.Bool.{Bool, true, false, cond, not, _&&_, _||_, true≢false}
+use mathlib.Core.Bool.{Bool, true, false, cond, not, _&&_, _||_, and-eq-true-iff}
 use mathlib.Core.List.{List, [], _∷_, _++_, append-assoc}
 use borrow.Author.Tests.{ltb-false, le-leb, leb-true, eqb-true, eq-eqb, ne-eqb}
 use lib.Dec.{eqb, leb, ltb, lit<}
@@ -45,16 +45,12 @@ use Rattle.card.specs.Card.{
 
 -- ---- a slot buffer that fits
 
-pub both : (a b : Bool) → (a && b) ≡ true → (a ≡ true) × (b ≡ true)
-both true b e = (refl, e)
-both false b e = absurd (true≢false (sym e))
-
 module _ (limit : ℕ) (slots : List ℕ) (ok : fits limit slots ≡ true) where
   parts : (leb 34 limit ≡ true) × (leb limit frameMost ≡ true) × (eqb (length slots) (64 * limit) ≡ true)
   unfolding fits
   parts =
-      let outer = both (leb 34 limit) (leb limit frameMost && eqb (length slots) (64 * limit)) ok in
-      let inner = both (leb limit frameMost) (eqb (length slots) (64 * limit)) (outer .1) in
+      let outer = and-eq-true-iff (leb 34 limit) (leb limit frameMost && eqb (length slots) (64 * limit)) .0 ok in
+      let inner = and-eq-true-iff (leb limit frameMost) (eqb (length slots) (64 * limit)) .0 (outer .1) in
       (outer .0, inner .0, inner .1)
 
   pub limit-least : 34 ≤ limit
@@ -149,6 +145,12 @@ length-next slot used last m = go (roomFor slot (endOf (nextHeader used) m))
     go : (b : Bool) → length (cond b (sets (set slot (last + 23) 1) used new) slot) ≡ length slot
     go true = length-sets (set slot (last + 23) 1) used new ∙ length-set slot (last + 23) 1
     go false = refl
+
+-- a slot's start stays inside a word
+pub slot-low : (k limit : ℕ) → k < 64 → limit < 65536 → k * limit < 64 * 65536
+slot-low k limit h l =
+    let low : k ≤ 63 = omega arith in
+    omega (arith, mul-le-mul-right limit low)
 
 -- a buffer that fits has 64 slots of the limit's length
 module _ (c : Card) (slots : List ℕ) (long : length slots ≡ 64 * c .limit) where

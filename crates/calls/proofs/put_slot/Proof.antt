@@ -2,7 +2,7 @@
 -- Assumes nothing.
 use native.Mathlib.Omega.{arith}
 use Prim.Native.Nat.{_%_}
-use Rattle.card.proofs.Limits.{slot-low}
+use Rattle.card.proofs.Slots.{slot-low}
 use borrow.Author.Needs.{needs}
 use Rattle.calls.proofs.put_slot.Statement.{statement}
 use Rattle.calls.proofs.put_slot.Tie as tie

@@ -1,0 +1,231 @@
+// Building frames: opening a transaction, adding a message, sealing. The card goes in by value and comes back; the slot buffer is
+// lent, and only adding a message writes to it, inside the slot of the frame being built.
+use card::Card;
+use card::Sealed;
+use card::Stepped;
+use card::TransOpened;
+use seq::FrameNo;
+use seq::TransNo;
+use wire::MessageHeader;
+ghost use mathlib.Core.Path.{_≡_};
+ghost use mathlib.Core.Bool.{Bool, true, false, cond, not, _&&_};
+ghost use Prim.Native.Nat.{_+_, _≤_, _<_};
+ghost use mathlib.Core.List.{[]};
+ghost use lib.Dec.{eqb, ltb};
+ghost use lib.ListN.{length};
+ghost use Rattle.wire.specs.Format.{nextHeader, carrying, headOf};
+ghost use Rattle.wire.specs.Writing.{firstMessage, nextMessage};
+ghost use Rattle.card.specs.Card.{
+  fits,
+  openTransaction,
+  headerPlace,
+  messageOf,
+  builtSlots,
+  addRefusal,
+  withMessage,
+  addMessage,
+  sealRefusal,
+  sealFrame,
+};
+
+// ---- opening a transaction
+
+// Opens a transaction of count data messages whose completion writes value at target.
+pub fn open_transaction(card: Card, count: u16, target: u32, value: u32) -> TransOpened
+    ensures { λ r. ⌜ r ≡ openTransaction card count target value ⌝ }
+{
+    let refusal = card.sendings.opening_refusal();
+    if refusal != 0 {
+        return TransOpened {
+            card,
+            refusal,
+            trans: TransNo(0),
+        };
+    }
+    let trans = card.sendings.next;
+    let mut next = card;
+    next.sendings = card.sendings.open(count, target, value);
+    TransOpened {
+        card: next,
+        refusal: 0,
+        trans,
+    }
+}
+
+// ---- adding a message
+
+// Where the header of the next message goes.
+fn header_place(used: u16) -> usize
+    ensures { λ r. ⌜ (r ≡ nextHeader used) × (r ≤ 65552) ⌝ }
+{
+    wire::next_header(used as usize)
+}
+
+// Whether there is data for the one message of a transaction of count 0.
+fn is_data_for_bare(count: u16, payload: &[u8]) -> bool
+    ensures { λ r. ⌜ r ≡ (eqb count 0 && ltb 0 (length (now (payload .entry)))) ⌝ }
+{
+    if count != 0 {
+        return false;
+    }
+    0 < payload.len()
+}
+
+// 22 where a message with this data would end past the limit.
+fn limit_refusal(limit: u16, used: u16, payload: &[u8]) -> u8
+    ensures { λ r. ⌜ r ≡ cond (ltb limit (nextHeader used + 24 + length (now (payload .entry)))) 22 0 ⌝ }
+{
+    let most = limit as usize;
+    let start = header_place(used) + 24;
+    if most < start {
+        return refusal::FRAME_FULL;
+    }
+    if most - start < payload.len() {
+        return refusal::FRAME_FULL;
+    }
+    0
+}
+
+fn add_refusal(card: Card, slots: &[u8], t: TransNo, payload: &[u8]) -> u8
+    ensures { λ r. ⌜ r ≡ addRefusal card (now (slots .entry)) (t .0) (now (payload .entry)) ⌝ }
+{
+    if !card::is_fitting(card.limit as usize, slots) {
+        return refusal::BAD_SLOTS;
+    }
+    if !card.sendings.takes(t) {
+        return refusal::TRANS_UNKNOWN;
+    }
+    if is_data_for_bare(card.sendings.sending(t).count, payload) {
+        return refusal::ADDING_TO_BARE;
+    }
+    if 64 <= card.window.unreleased() {
+        return refusal::FRAME_WINDOW_FULL;
+    }
+    limit_refusal(card.limit, card.used, payload)
+}
+
+// The header of a message of transaction t with data for an address.
+fn header_of(card: Card, t: TransNo, at: u32) -> MessageHeader
+    ensures { λ r. ⌜ r ≡ headOf (messageOf card (t .0) at []) ⌝ }
+{
+    let e = card.sendings.sending(t);
+    MessageHeader {
+        trans: t,
+        target: e.target,
+        value: e.value,
+        count: e.count,
+        at,
+    }
+}
+
+// Writes a message into a slot: the first one with the frame's header, from one ID to another, a later one behind those so far.
+fn write_in_slot(
+    slot: &mut [u8],
+    to: u16,
+    from: u16,
+    number: FrameNo,
+    used: u16,
+    last: u16,
+    h: MessageHeader,
+    payload: &[u8],
+)
+    ensures { λ _. ⌜ now (slot .exit) ≡ cond (eqb used 0)
+        (firstMessage (now (slot .entry)) to from (number .0) (carrying h (now (payload .entry))))
+        (nextMessage (now (slot .entry)) used last (carrying h (now (payload .entry)))) ⌝ }
+{
+    if used == 0 {
+        writer::write_first(slot, to, from, number, h, payload);
+        return;
+    }
+    writer::write_next(slot, used as usize, last as usize, h, payload);
+}
+
+// Writes a message that has room into the slot of the frame being built, which is lent to the frame writer.
+fn write_message(card: Card, slots: &mut [u8], t: TransNo, at: u32, payload: &[u8])
+    requires { ⌜ fits (card .limit) (now slots) ≡ true ⌝ }
+    ensures { λ _. ⌜ now (slots .exit) ≡ builtSlots card (now (slots .entry)) (messageOf card (t .0) at (now (payload .entry))) ⌝ }
+{
+    let limit = card.limit as usize;
+    let number = card.window.next;
+    let start = (number.0 % 64) as usize * limit;
+    let end = start + limit;
+    let h = header_of(card, t, at);
+    write_in_slot(
+        &mut slots[start..end],
+        card.peer,
+        card.own,
+        number,
+        card.used,
+        card.last,
+        h,
+        payload,
+    );
+}
+
+// The card with the message counted, and no refusal.
+fn count_message(card: Card, t: TransNo, payload: &[u8]) -> Stepped
+    requires { ⌜ headerPlace card + 24 + length (now payload) ≤ 9000 ⌝ }
+    ensures { λ r. ⌜ r ≡ record { card = withMessage card (t .0) (now (payload .entry)); refusal = 0 } ⌝ }
+{
+    let place = header_place(card.used);
+    let number = card.window.next;
+    let mut next = card;
+    next.used = (place + 24 + payload.len()) as u16;
+    next.last = place as u16;
+    next.sendings = card.sendings.add(t, number);
+    Stepped {
+        card: next,
+        refusal: 0,
+    }
+}
+
+// Adds one message of transaction t, with data for an address, to the frame being built.
+pub fn add_message(card: Card, slots: &mut [u8], t: TransNo, at: u32, payload: &[u8]) -> Stepped
+    ensures { λ r. ⌜ r ≡ addMessage card (now (slots .entry)) (t .0) at (now (payload .entry)) .step ⌝ }
+    ensures { λ _. ⌜ now (slots .exit) ≡ addMessage card (now (slots .entry)) (t .0) at (now (payload .entry)) .slots ⌝ }
+{
+    let refusal = add_refusal(card, slots, t, payload);
+    if refusal != 0 {
+        return Stepped { card, refusal };
+    }
+    write_message(card, slots, t, at, payload);
+    count_message(card, t, payload)
+}
+
+// ---- sealing
+
+fn seal_refusal(limit: u16, used: u16, slots: &[u8]) -> u8
+    ensures { λ r. ⌜ r ≡ cond (not (fits limit (now (slots .entry)))) 26 (cond (eqb used 0) 24 0) ⌝ }
+{
+    if !card::is_fitting(limit as usize, slots) {
+        return refusal::BAD_SLOTS;
+    }
+    if used == 0 {
+        return refusal::NOTHING_TO_SEAL;
+    }
+    0
+}
+
+// Seals the frame being built. The slots are lent for their length.
+pub fn seal_frame(card: Card, slots: &[u8]) -> Sealed
+    ensures { λ r. ⌜ r ≡ sealFrame card (now (slots .entry)) ⌝ }
+{
+    let refusal = seal_refusal(card.limit, card.used, slots);
+    if refusal != 0 {
+        return Sealed {
+            card,
+            refusal,
+            number: FrameNo(0),
+        };
+    }
+    let number = card.window.next;
+    let mut next = card;
+    next.used = 0;
+    next.last = 0;
+    next.window = card.window.seal(card.used);
+    Sealed {
+        card: next,
+        refusal: 0,
+        number,
+    }
+}

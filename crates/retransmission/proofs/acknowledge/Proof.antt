@@ -1,0 +1,23 @@
+-- `acknowledge`: frames are released, and with them transactions finish.
+-- Assumes nothing.
+use Rattle.card.specs.Card.{acknowledged}
+use borrow.Author.Needs.{needs}
+use Rattle.retransmission.proofs.acknowledge.Statement.{statement}
+use Rattle.retransmission.proofs.acknowledge.Tie as tie
+use Rattle.retransmission.proofs.acknowledge.Reads as reads
+use Rattle.retransmission.proofs.acknowledge.Lts as lts
+use Rattle.send_window.proofs.SendWindow.acknowledge.Reads as acknowledge-reads
+use Rattle.sendings.proofs.Sendings.finish.Reads as finish-reads
+
+acknowledge-requires : tie.Need-acknowledge-requires
+acknowledge-requires c κs = search needs
+
+finish-requires : tie.Need-finish-requires
+finish-requires c κs = search needs
+
+returns : tie.Need-returns
+unfolding acknowledged
+returns c = rw (c .finish .ensures, c .before .before .acknowledge .ensures)
+
+pub acknowledge-spec : {M : Type 1} → statement M
+acknowledge-spec = tie.close (tie.spec acknowledge-requires finish-requires returns)

@@ -1,0 +1,41 @@
+-- `read_acknowledgements`: refused as a frame is, or the range of its header.
+-- Assumes nothing.
+use borrow.Author.Tests.{eq-eqb, ne-eqb}
+use Rattle.reader.specs.Layout.{headerOf}
+use Rattle.card.specs.Card.{readAcks}
+use borrow.Author.Needs.{needs}
+use Rattle.retransmission.proofs.read_acknowledgements.Statement.{statement}
+use Rattle.retransmission.proofs.read_acknowledgements.Tie as tie
+use Rattle.retransmission.proofs.read_acknowledgements.Reads as reads
+use Rattle.retransmission.proofs.read_acknowledgements.Lts as lts
+use Rattle.retransmission.proofs.acknowledge.Reads as acknowledge-reads
+use Rattle.reader.proofs.frame_header.Reads as frame-header-reads
+use Rattle.reader.proofs.refusal_of.Reads as refusal-of-reads
+
+refusal-of-requires : tie.Need-refusal-of-requires
+refusal-of-requires c κs = search needs
+
+returns : tie.Need-returns
+unfolding readAcks
+returns c = rw (← c .before .refusal-of .ensures, ne-eqb _ 0 (c .if1 .taken))
+
+frame-header-requires : tie.Need-frame-header-requires
+frame-header-requires c κs = search needs
+
+acknowledge-requires : tie.Need-acknowledge-requires
+acknowledge-requires c κs = search needs
+
+returns-2 : tie.Need-returns-2
+unfolding readAcks headerOf
+returns-2 c =
+    rw (
+      c .acknowledge .ensures,
+      c .before .frame-header .ensures,
+      ← c .before .before .before .refusal-of .ensures,
+      eq-eqb _ 0 (c .before .before .if1 .left),
+    )
+
+pub read-acknowledgements-spec : {M : Type 1} → statement M
+read-acknowledgements-spec =
+    tie.close
+    (tie.spec refusal-of-requires returns frame-header-requires acknowledge-requires returns-2)

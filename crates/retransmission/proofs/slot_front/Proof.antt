@@ -1,0 +1,58 @@
+-- `slot_front`: the part where it lies in the buffer.
+-- Assumes nothing.
+use Prim.Native.Nat.{_%_}
+use native.Mathlib.Nat.{mod-lt, add-sub-cancel-left}
+use native.Mathlib.Omega.{arith}
+use borrow.Author.Tests.{le-leb, lt-leb}
+use lib.Dec.{lit<}
+use Rattle.card.proofs.Slots.{slot-low}
+use borrow.Author.Needs.{needs}
+use Rattle.retransmission.proofs.slot_front.Statement.{statement}
+use Rattle.retransmission.proofs.slot_front.Tie as tie
+use Rattle.retransmission.proofs.slot_front.Reads as reads
+use Rattle.retransmission.proofs.slot_front.Lts as lts
+
+cast-start : tie.Need-cast-start
+cast-start c = search needs
+
+mul-start : tie.Need-mul-start
+mul-start c =
+    let a = c .before .args in
+    omega (arith, slot-low (a .n .0 % 64) (a .limit) (mod-lt _ (lit< tt)) (search needs))
+
+add-end : tie.Need-add-end
+add-end c =
+    let a = c .before .args in
+    omega (arith, slot-low (a .n .0 % 64) (a .limit) (mod-lt _ (lit< tt)) (search needs))
+
+slice-aggregate-result : tie.Need-slice-aggregate-result
+slice-aggregate-result c = search needs
+
+returns : tie.Need-returns
+returns c = rw (lt-leb _ _ (c .before .if1 .taken))
+
+sub-result : tie.Need-sub-result
+sub-result c = search needs
+
+part-result-start : tie.Need-part-result-start
+part-result-start c = search needs
+
+part-result-end : tie.Need-part-result-end
+part-result-end c = search needs
+
+returns-2 : tie.Need-returns-2
+returns-2 c = rw (le-leb _ _ (c .before .if1 .left), add-sub-cancel-left)
+
+pub slot-front-spec : {M : Type 1} → statement M
+slot-front-spec =
+    tie.close
+    (tie.spec
+    cast-start
+    mul-start
+    add-end
+    slice-aggregate-result
+    returns
+    sub-result
+    part-result-start
+    part-result-end
+    returns-2)

@@ -1,0 +1,133 @@
+// What goes out, again and again until it is acknowledged: reading acknowledgements, showing a held frame, choosing what goes out
+// next. The card goes in by value and comes back; the slots are lent for reading, and a part of what is lent is handed out.
+use card::Card;
+use card::Stepped;
+use seq::FrameNo;
+ghost use mathlib.Core.Path.{_≡_};
+ghost use mathlib.Core.Bool.{Bool, true, false, cond};
+ghost use mathlib.Core.List.{[]};
+ghost use Prim.Native.Nat.{_+_, _*_, _%_};
+ghost use lib.Dec.{leb};
+ghost use lib.ListN.{length, take, drop};
+ghost use Rattle.send_window.specs.Window.{oldestHeld};
+ghost use Rattle.card.specs.Card.{
+  acknowledged,
+  readAcks,
+  frameIn,
+  showRefusal,
+  showFrame,
+  chooseRefusal,
+  chooseNext,
+};
+
+// ---- reading acknowledgements
+
+// The card once the count numbers from start on are acknowledged, and no refusal.
+fn acknowledge(card: Card, start: FrameNo, count: u8) -> Stepped
+    ensures { λ r. ⌜ r ≡ record { card = acknowledged card (start .0) count; refusal = 0 } ⌝ }
+{
+    let window = card.window.acknowledge(start, count);
+    let base = window.base;
+    let mut next = card;
+    next.window = window;
+    next.sendings = card.sendings.finish(base, window.next);
+    Stepped {
+        card: next,
+        refusal: 0,
+    }
+}
+
+// Reads the acknowledgements of an arriving frame.
+pub fn read_acknowledgements(card: Card, f: &[u8]) -> Stepped
+    ensures { λ r. ⌜ r ≡ readAcks card (now (f .entry)) ⌝ }
+{
+    let refusal = reader::refusal_of(f, card.own, card.peer);
+    if refusal != 0 {
+        return Stepped { card, refusal };
+    }
+    let head = reader::frame_header(f);
+    acknowledge(card, head.ackstart, head.ackcount)
+}
+
+// ---- showing and choosing
+
+// The first size bytes of the slot of a number, where slots have limit bytes: none of them where they pass the buffer's end.
+fn slot_front(slots: &[u8], limit: u16, n: FrameNo, size: u16) -> &[u8]
+    ensures { λ r. ⌜ now r ≡ cond (leb (n .0 % 64 * limit + size) (length (now (slots .entry))))
+        (take size (drop (n .0 % 64 * limit) (now (slots .entry)))) [] ⌝ }
+{
+    let start = (n.0 % 64) as usize * limit as usize;
+    let end = start + size as usize;
+    if slots.len() < end {
+        return &slots[..0];
+    }
+    &slots[start..end]
+}
+
+// The sealed frame of a number: a part of the slots.
+fn frame_in(card: Card, slots: &[u8], n: FrameNo) -> &[u8]
+    ensures { λ r. ⌜ now r ≡ frameIn card (now (slots .entry)) (n .0) ⌝ }
+{
+    slot_front(slots, card.limit, n, card.window.size(n))
+}
+
+// The refusal of showing a frame, 0 for none.
+pub fn show_refusal(card: Card, slots: &[u8], n: FrameNo) -> u8
+    ensures { λ r. ⌜ r ≡ showRefusal card (now (slots .entry)) (n .0) ⌝ }
+{
+    if !card::is_fitting(card.limit as usize, slots) {
+        return refusal::BAD_SLOTS;
+    }
+    if card.window.holds(n) {
+        return 0;
+    }
+    refusal::NOT_HELD
+}
+
+// Shows a held frame: a part of the slots, empty where the showing is refused.
+pub fn show_frame(card: Card, slots: &[u8], n: FrameNo) -> &[u8]
+    ensures { λ r. ⌜ now r ≡ showFrame card (now (slots .entry)) (n .0) ⌝ }
+{
+    if show_refusal(card, slots, n) != 0 {
+        return &slots[..0];
+    }
+    frame_in(card, slots, n)
+}
+
+// The refusal of choosing, 0 for none.
+pub fn choose_refusal(card: Card, slots: &[u8], ack: &[u8]) -> u8
+    ensures { λ r. ⌜ r ≡ chooseRefusal card (now (slots .entry)) (now (ack .entry)) ⌝ }
+{
+    if !card::is_fitting(card.limit as usize, slots) {
+        return refusal::BAD_SLOTS;
+    }
+    if ack.len() == 10 {
+        return 0;
+    }
+    if card.window.before_held() < card.window.unreleased() {
+        return 0;
+    }
+    refusal::NOT_HELD
+}
+
+// The oldest held frame: a part of the slots.
+fn oldest_frame(card: Card, slots: &[u8]) -> &[u8]
+    ensures { λ r. ⌜ now r ≡ frameIn card (now (slots .entry)) (oldestHeld (card .window)) ⌝ }
+{
+    let n = card.window.base.advance(card.window.before_held());
+    frame_in(card, slots, n)
+}
+
+// Chooses what goes out next: the lent acknowledgement, or the oldest held frame, each as a part of its own buffer; an empty part
+// where there is neither.
+pub fn choose_next<'a>(card: Card, slots: &'a [u8], ack: &'a [u8]) -> &'a [u8]
+    ensures { λ r. ⌜ now r ≡ chooseNext card (now (slots .entry)) (now (ack .entry)) ⌝ }
+{
+    if choose_refusal(card, slots, ack) != 0 {
+        return &slots[..0];
+    }
+    if ack.len() == 10 {
+        return ack;
+    }
+    oldest_frame(card, slots)
+}
