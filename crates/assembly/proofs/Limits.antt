@@ -8,9 +8,6 @@ use native.Mathlib.Omega.{arith}
 use borrow.Author.Tests.{lt-ltb, le-ltb}
 use lib.Dec.{ltb}
 
-pub limit-passed : (limit start n : ℕ) → limit < start → ltb limit (start + n) ≡ true
-limit-passed limit start n h = lt-ltb limit (start + n) (omega arith)
-
 -- what is left of the limit is compared instead of a sum
 pub past-limit : (limit start n : ℕ) → start ≤ limit → ltb (limit - start) n ≡ ltb limit (start + n)
 past-limit limit start n h = go (decLt (limit - start) n)

@@ -9,7 +9,7 @@ use seq::TransNo;
 use wire::MessageHeader;
 ghost use mathlib.Core.Path.{_≡_};
 ghost use mathlib.Core.Bool.{Bool, true, false, cond, not, _&&_};
-ghost use Prim.Native.Nat.{_+_, _≤_, _<_};
+ghost use Prim.Native.Nat.{_+_, _≤_};
 ghost use mathlib.Core.List.{[]};
 ghost use lib.Dec.{eqb, ltb};
 ghost use lib.ListN.{length};
@@ -24,7 +24,6 @@ ghost use Rattle.card.specs.Card.{
   addRefusal,
   withMessage,
   addMessage,
-  sealRefusal,
   sealFrame,
 };
 
@@ -71,16 +70,35 @@ fn is_data_for_bare(count: u16, payload: &[u8]) -> bool
     0 < payload.len()
 }
 
-// 22 where a message with this data would end past the limit.
-fn limit_refusal(limit: u16, used: u16, payload: &[u8]) -> u8
-    ensures { λ r. ⌜ r ≡ cond (ltb limit (nextHeader used + 24 + length (now (payload .entry)))) 22 0 ⌝ }
+// Whether a message with this data would end past the limit.
+fn is_past_limit(limit: u16, used: u16, payload: &[u8]) -> bool
+    ensures { λ r. ⌜ r ≡ ltb limit (nextHeader used + 24 + length (now (payload .entry))) ⌝ }
 {
     let most = limit as usize;
     let start = header_place(used) + 24;
     if most < start {
-        return refusal::FRAME_FULL;
+        return true;
     }
-    if most - start < payload.len() {
+    most - start < payload.len()
+}
+
+// The refusals of adding in their order: the first that holds, and 0 for none.
+fn first_refusal(fitting: bool, taking: bool, bare: bool, full: bool, past: bool) -> u8
+    ensures { λ r. ⌜ r ≡ cond (not fitting) 26 (cond (not taking) 23 (cond bare 27 (cond full 21 (cond past 22 0)))) ⌝ }
+{
+    if !fitting {
+        return refusal::BAD_SLOTS;
+    }
+    if !taking {
+        return refusal::TRANS_UNKNOWN;
+    }
+    if bare {
+        return refusal::ADDING_TO_BARE;
+    }
+    if full {
+        return refusal::FRAME_WINDOW_FULL;
+    }
+    if past {
         return refusal::FRAME_FULL;
     }
     0
@@ -89,19 +107,12 @@ fn limit_refusal(limit: u16, used: u16, payload: &[u8]) -> u8
 fn add_refusal(card: Card, slots: &[u8], t: TransNo, payload: &[u8]) -> u8
     ensures { λ r. ⌜ r ≡ addRefusal card (now (slots .entry)) (t .0) (now (payload .entry)) ⌝ }
 {
-    if !card::is_fitting(card.limit as usize, slots) {
-        return refusal::BAD_SLOTS;
-    }
-    if !card.sendings.takes(t) {
-        return refusal::TRANS_UNKNOWN;
-    }
-    if is_data_for_bare(card.sendings.sending(t).count, payload) {
-        return refusal::ADDING_TO_BARE;
-    }
-    if 64 <= card.window.unreleased() {
-        return refusal::FRAME_WINDOW_FULL;
-    }
-    limit_refusal(card.limit, card.used, payload)
+    let fitting = card::is_fitting(card.limit as usize, slots);
+    let taking = card.sendings.takes(t);
+    let bare = is_data_for_bare(card.sendings.sending(t).count, payload);
+    let past = is_past_limit(card.limit, card.used, payload);
+    let full = 64 <= card.window.unreleased();
+    first_refusal(fitting, taking, bare, full, past)
 }
 
 // The header of a message of transaction t with data for an address.
@@ -146,15 +157,14 @@ fn write_message(card: Card, slots: &mut [u8], t: TransNo, at: u32, payload: &[u
     ensures { λ _. ⌜ now (slots .exit) ≡ builtSlots card (now (slots .entry)) (messageOf card (t .0) at (now (payload .entry))) ⌝ }
 {
     let limit = card.limit as usize;
-    let number = card.window.next;
-    let start = (number.0 % 64) as usize * limit;
+    let start = (card.window.next.0 % 64) as usize * limit;
     let end = start + limit;
     let h = header_of(card, t, at);
     write_in_slot(
         &mut slots[start..end],
         card.peer,
         card.own,
-        number,
+        card.window.next,
         card.used,
         card.last,
         h,
@@ -168,11 +178,10 @@ fn count_message(card: Card, t: TransNo, payload: &[u8]) -> Stepped
     ensures { λ r. ⌜ r ≡ record { card = withMessage card (t .0) (now (payload .entry)); refusal = 0 } ⌝ }
 {
     let place = header_place(card.used);
-    let number = card.window.next;
     let mut next = card;
     next.used = (place + 24 + payload.len()) as u16;
     next.last = place as u16;
-    next.sendings = card.sendings.add(t, number);
+    next.sendings = card.sendings.add(t, card.window.next);
     Stepped {
         card: next,
         refusal: 0,
@@ -194,23 +203,25 @@ pub fn add_message(card: Card, slots: &mut [u8], t: TransNo, at: u32, payload: &
 
 // ---- sealing
 
-fn seal_refusal(limit: u16, used: u16, slots: &[u8]) -> u8
-    ensures { λ r. ⌜ r ≡ cond (not (fits limit (now (slots .entry)))) 26 (cond (eqb used 0) 24 0) ⌝ }
+// The refusals of sealing in their order: of the slots, then of an empty frame; 0 for none.
+fn seal_refusal(fitting: bool, empty: bool) -> u8
+    ensures { λ r. ⌜ r ≡ cond (not fitting) 26 (cond empty 24 0) ⌝ }
 {
-    if !card::is_fitting(limit as usize, slots) {
-        return refusal::BAD_SLOTS;
+    if fitting {
+        if empty {
+            return refusal::NOTHING_TO_SEAL;
+        }
+        return 0;
     }
-    if used == 0 {
-        return refusal::NOTHING_TO_SEAL;
-    }
-    0
+    refusal::BAD_SLOTS
 }
 
 // Seals the frame being built. The slots are lent for their length.
 pub fn seal_frame(card: Card, slots: &[u8]) -> Sealed
     ensures { λ r. ⌜ r ≡ sealFrame card (now (slots .entry)) ⌝ }
 {
-    let refusal = seal_refusal(card.limit, card.used, slots);
+    let fitting = card::is_fitting(card.limit as usize, slots);
+    let refusal = seal_refusal(fitting, card.used == 0);
     if refusal != 0 {
         return Sealed {
             card,

@@ -431,7 +431,7 @@ adding-reachable c slots t at bytes r = go (eqb (addRefusal c slots t bytes) 0) 
             most = room-in c slots t bytes a;
             last-least = omega arith;
             last-inside = omega arith;
-            slot-free = leb-false 64 (unreleased (c .window)) (a .slot-free);
+            slot-free = omega (arith, leb-false 64 (unreleased (c .window)) (a .slot-free));
           });
           window = r .window;
           sendings = adding-keeps (c .sendings) t (c .window .next .0) (r .sendings) (r .window .next-fits);

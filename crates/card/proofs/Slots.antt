@@ -147,9 +147,9 @@ length-next slot used last m = go (roomFor slot (endOf (nextHeader used) m))
     go false = refl
 
 -- a slot's start stays inside a word
-pub slot-low : (k limit : ℕ) → k < 64 → limit < 65536 → k * limit < 64 * 65536
-slot-low k limit h l =
-    let low : k ≤ 63 = omega arith in
+pub slot-low : (n limit : ℕ) → limit < 65536 → n % 64 * limit < 64 * 65536
+slot-low n limit h =
+    let low : n % 64 ≤ 63 = omega arith in
     omega (arith, mul-le-mul-right limit low)
 
 -- a buffer that fits has 64 slots of the limit's length

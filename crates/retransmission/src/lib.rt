@@ -2,20 +2,22 @@
 // next. The card goes in by value and comes back; the slots are lent for reading, and a part of what is lent is handed out.
 use card::Card;
 use card::Stepped;
+use send_window::SendWindow;
 use seq::FrameNo;
 ghost use mathlib.Core.Path.{_≡_};
-ghost use mathlib.Core.Bool.{Bool, true, false, cond};
+ghost use mathlib.Core.Bool.{Bool, true, false, cond, not};
 ghost use mathlib.Core.List.{[]};
 ghost use Prim.Native.Nat.{_+_, _*_, _%_};
 ghost use lib.Dec.{leb};
 ghost use lib.ListN.{length, take, drop};
-ghost use Rattle.send_window.specs.Window.{oldestHeld};
+ghost use Rattle.send_window.specs.Window.{anyHeld, oldestHeld};
 ghost use Rattle.card.specs.Card.{
   acknowledged,
   readAcks,
   frameIn,
   showRefusal,
   showFrame,
+  isAck,
   chooseRefusal,
   chooseNext,
 };
@@ -58,10 +60,10 @@ fn slot_front(slots: &[u8], limit: u16, n: FrameNo, size: u16) -> &[u8]
 {
     let start = (n.0 % 64) as usize * limit as usize;
     let end = start + size as usize;
-    if slots.len() < end {
-        return &slots[..0];
+    if end <= slots.len() {
+        return &slots[start..end];
     }
-    &slots[start..end]
+    &slots[..0]
 }
 
 // The sealed frame of a number: a part of the slots.
@@ -71,17 +73,25 @@ fn frame_in(card: Card, slots: &[u8], n: FrameNo) -> &[u8]
     slot_front(slots, card.limit, n, card.window.size(n))
 }
 
+// The refusals of showing and of choosing in their order: of the slots, then of having nothing to hand out; 0 for none.
+fn first_refusal(fitting: bool, some: bool) -> u8
+    ensures { λ r. ⌜ r ≡ cond (not fitting) 26 (cond some 0 25) ⌝ }
+{
+    if fitting {
+        if some {
+            return 0;
+        }
+        return refusal::NOT_HELD;
+    }
+    refusal::BAD_SLOTS
+}
+
 // The refusal of showing a frame, 0 for none.
 pub fn show_refusal(card: Card, slots: &[u8], n: FrameNo) -> u8
     ensures { λ r. ⌜ r ≡ showRefusal card (now (slots .entry)) (n .0) ⌝ }
 {
-    if !card::is_fitting(card.limit as usize, slots) {
-        return refusal::BAD_SLOTS;
-    }
-    if card.window.holds(n) {
-        return 0;
-    }
-    refusal::NOT_HELD
+    let held = card.window.holds(n);
+    first_refusal(card::is_fitting(card.limit as usize, slots), held)
 }
 
 // Shows a held frame: a part of the slots, empty where the showing is refused.
@@ -94,20 +104,28 @@ pub fn show_frame(card: Card, slots: &[u8], n: FrameNo) -> &[u8]
     frame_in(card, slots, n)
 }
 
+// Whether an acknowledgement is lent.
+fn is_ack(ack: &[u8]) -> bool
+    ensures { λ r. ⌜ r ≡ isAck (now (ack .entry)) ⌝ }
+{
+    ack.len() == 10
+}
+
+// Whether a frame is held.
+fn is_any_held(window: SendWindow) -> bool
+    ensures { λ r. ⌜ r ≡ anyHeld window ⌝ }
+{
+    window.before_held() < window.unreleased()
+}
+
 // The refusal of choosing, 0 for none.
 pub fn choose_refusal(card: Card, slots: &[u8], ack: &[u8]) -> u8
     ensures { λ r. ⌜ r ≡ chooseRefusal card (now (slots .entry)) (now (ack .entry)) ⌝ }
 {
-    if !card::is_fitting(card.limit as usize, slots) {
-        return refusal::BAD_SLOTS;
-    }
-    if ack.len() == 10 {
-        return 0;
-    }
-    if card.window.before_held() < card.window.unreleased() {
-        return 0;
-    }
-    refusal::NOT_HELD
+    let fitting = card::is_fitting(card.limit as usize, slots);
+    let lent = is_ack(ack);
+    let held = is_any_held(card.window);
+    first_refusal(fitting, lent | held)
 }
 
 // The oldest held frame: a part of the slots.
@@ -126,7 +144,7 @@ pub fn choose_next<'a>(card: Card, slots: &'a [u8], ack: &'a [u8]) -> &'a [u8]
     if choose_refusal(card, slots, ack) != 0 {
         return &slots[..0];
     }
-    if ack.len() == 10 {
+    if is_ack(ack) {
         return ack;
     }
     oldest_frame(card, slots)

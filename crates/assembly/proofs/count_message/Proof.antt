@@ -29,7 +29,7 @@ add-requires c κs = search needs
 
 returns : tie.Need-returns
 unfolding withMessage
-returns c = rw (c .add .ensures, c .before .before .header-place .ensures .0)
+returns c = rw (c .add .ensures, c .before .header-place .ensures .0)
 
 pub count-message-spec : {M : Type 1} → statement M
 count-message-spec =

@@ -8,14 +8,22 @@ use Rattle.assembly.proofs.seal_frame.Tie as tie
 use Rattle.assembly.proofs.seal_frame.Reads as reads
 use Rattle.assembly.proofs.seal_frame.Lts as lts
 use Rattle.assembly.proofs.seal_refusal.Reads as seal-refusal-reads
+use Rattle.card.proofs.is_fitting.Reads as is-fitting-reads
 use Rattle.send_window.proofs.SendWindow.seal.Reads as seal-reads
+
+cast-is-fitting : tie.Need-cast-is-fitting
+cast-is-fitting c = search needs
+
+is-fitting-requires : tie.Need-is-fitting-requires
+is-fitting-requires c κs = search needs
 
 seal-refusal-requires : tie.Need-seal-refusal-requires
 seal-refusal-requires c κs = search needs
 
 returns : tie.Need-returns
 unfolding sealFrame sealRefusal
-returns c = rw (← c .before .seal-refusal .ensures, ne-eqb _ 0 (c .if1 .taken))
+returns c =
+    rw (← c .before .before .before .is-fitting .ensures, ← c .before .seal-refusal .ensures, ne-eqb _ 0 (c .if1 .taken))
 
 seal-requires : tie.Need-seal-requires
 seal-requires c κs = search needs
@@ -25,9 +33,10 @@ unfolding sealFrame sealRefusal
 returns-2 c =
     rw (
       c .seal .ensures,
+      ← c .before .before .before .before .before .is-fitting .ensures,
       ← c .before .before .before .seal-refusal .ensures,
       eq-eqb _ 0 (c .before .before .if1 .left),
     )
 
 pub seal-frame-spec : {M : Type 1} → statement M
-seal-frame-spec = tie.close (tie.spec seal-refusal-requires returns seal-requires returns-2)
+seal-frame-spec = tie.close (tie.spec cast-is-fitting is-fitting-requires seal-refusal-requires returns seal-requires returns-2)

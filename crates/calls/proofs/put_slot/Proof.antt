@@ -1,7 +1,6 @@
 -- `calls::put_slot`: where a slot starts fits in 64 bits.
 -- Assumes nothing.
 use native.Mathlib.Omega.{arith}
-use Prim.Native.Nat.{_%_}
 use Rattle.card.proofs.Slots.{slot-low}
 use borrow.Author.Needs.{needs}
 use Rattle.calls.proofs.put_slot.Statement.{statement}
@@ -23,8 +22,8 @@ mul-place : tie.Need-mul-place
 mul-place c =
     omega (
       arith,
-      slot-low (c .before .before .frame-header .result .number .0 % 64) (c .before .before .before .before .before .args .limit)
-          (omega arith) (search needs),
+      slot-low (c .before .before .frame-header .result .number .0) (c .before .before .before .before .before .args .limit)
+          (search needs),
     )
 
 slice-aggregate-put-field : tie.Need-slice-aggregate-put-field

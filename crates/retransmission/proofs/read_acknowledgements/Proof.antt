@@ -1,6 +1,8 @@
 -- `read_acknowledgements`: refused as a frame is, or the range of its header.
 -- Assumes nothing.
+use mathlib.Core.Path.{_≡_}
 use borrow.Author.Tests.{eq-eqb, ne-eqb}
+use Rattle.wire.specs.Reading.{addressed, readFrame, refusalOf}
 use Rattle.reader.specs.Layout.{headerOf}
 use Rattle.card.specs.Card.{readAcks}
 use borrow.Author.Needs.{needs}
@@ -17,7 +19,11 @@ refusal-of-requires c κs = search needs
 
 returns : tie.Need-returns
 unfolding readAcks
-returns c = rw (← c .before .refusal-of .ensures, ne-eqb _ 0 (c .if1 .taken))
+returns c =
+    let a = c .before .before .before .args in
+    let r : c .before .refusal-of .result ≡ refusalOf (readFrame (addressed (a .card .own) (a .card .peer) (a .f .now)) (a .f .now)) =
+    c .before .refusal-of .ensures in
+    rw (← r, ne-eqb _ 0 (c .if1 .taken))
 
 frame-header-requires : tie.Need-frame-header-requires
 frame-header-requires c κs = search needs

@@ -1,5 +1,6 @@
 -- `show_frame`: the frame, or nothing where it is refused.
 -- Assumes nothing.
+use native.Mathlib.Omega.{arith}
 use borrow.Author.Tests.{eq-eqb, ne-eqb}
 use Rattle.card.specs.Card.{showFrame}
 use borrow.Author.Needs.{needs}
@@ -18,14 +19,18 @@ slice-aggregate-result c = search needs
 
 returns : tie.Need-returns
 unfolding showFrame
-returns c = rw (← c .before .before .show-refusal .ensures, ne-eqb _ 0 (c .before .if1 .taken))
+returns c =
+    let r = c .before .before .show-refusal in
+    rw (← r .ensures, ne-eqb (r .result) 0 (λ e. omega (arith, c .before .if1 .taken)))
 
 frame-in-requires : tie.Need-frame-in-requires
 frame-in-requires c κs = search needs
 
 returns-2 : tie.Need-returns-2
 unfolding showFrame
-returns-2 c = rw (← c .before .before .show-refusal .ensures, eq-eqb _ 0 (c .before .if1 .left)) (c .frame-in .ensures)
+returns-2 c =
+    let r = c .before .before .show-refusal in
+    rw (← r .ensures, eq-eqb (r .result) 0 (omega (arith, c .before .if1 .left))) (c .frame-in .ensures)
 
 pub show-frame-spec : {M : Type 1} → statement M
 show-frame-spec =

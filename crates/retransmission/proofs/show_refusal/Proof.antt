@@ -1,4 +1,4 @@
--- `show_refusal`: 26 before 25.
+-- `show_refusal`: what each test found, in the order of the refusals.
 -- Assumes nothing.
 use Rattle.card.specs.Card.{showRefusal}
 use borrow.Author.Needs.{needs}
@@ -7,7 +7,11 @@ use Rattle.retransmission.proofs.show_refusal.Tie as tie
 use Rattle.retransmission.proofs.show_refusal.Reads as reads
 use Rattle.retransmission.proofs.show_refusal.Lts as lts
 use Rattle.card.proofs.is_fitting.Reads as is-fitting-reads
+use Rattle.retransmission.proofs.first_refusal.Reads as first-refusal-reads
 use Rattle.send_window.proofs.SendWindow.holds.Reads as holds-reads
+
+holds-requires : tie.Need-holds-requires
+holds-requires c κs = search needs
 
 cast-is-fitting : tie.Need-cast-is-fitting
 cast-is-fitting c = search needs
@@ -15,34 +19,14 @@ cast-is-fitting c = search needs
 is-fitting-requires : tie.Need-is-fitting-requires
 is-fitting-requires c κs = search needs
 
+first-refusal-requires : tie.Need-first-refusal-requires
+first-refusal-requires c κs = search needs
+
 returns : tie.Need-returns
 unfolding showRefusal
-returns c = rw (← c .before .is-fitting .ensures, c .if1 .taken)
-
-holds-requires : tie.Need-holds-requires
-holds-requires c κs = search needs
-
-returns-2 : tie.Need-returns-2
-unfolding showRefusal
-returns-2 c =
-    rw (
-      ← c .before .before .before .is-fitting .ensures,
-      c .before .before .if1 .left,
-      ← c .before .holds .ensures,
-      c .if2 .taken,
-    )
-
-returns-3 : tie.Need-returns-3
-unfolding showRefusal
-returns-3 c =
-    rw (
-      ← c .before .before .before .is-fitting .ensures,
-      c .before .before .if1 .left,
-      ← c .before .holds .ensures,
-      c .if2 .left,
-    )
+returns c = rw (← c .before .is-fitting .ensures, ← c .before .before .before .holds .ensures) (c .first-refusal .ensures)
 
 pub show-refusal-spec : {M : Type 1} → statement M
 show-refusal-spec =
     tie.close
-    (tie.spec cast-is-fitting is-fitting-requires returns holds-requires returns-2 returns-3)
+    (tie.spec holds-requires cast-is-fitting is-fitting-requires first-refusal-requires returns)

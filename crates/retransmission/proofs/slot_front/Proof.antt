@@ -1,10 +1,8 @@
 -- `slot_front`: the part where it lies in the buffer.
 -- Assumes nothing.
-use Prim.Native.Nat.{_%_}
-use native.Mathlib.Nat.{mod-lt, add-sub-cancel-left}
+use native.Mathlib.Nat.{add-sub-cancel-left}
 use native.Mathlib.Omega.{arith}
 use borrow.Author.Tests.{le-leb, lt-leb}
-use lib.Dec.{lit<}
 use Rattle.card.proofs.Slots.{slot-low}
 use borrow.Author.Needs.{needs}
 use Rattle.retransmission.proofs.slot_front.Statement.{statement}
@@ -18,18 +16,12 @@ cast-start c = search needs
 mul-start : tie.Need-mul-start
 mul-start c =
     let a = c .before .args in
-    omega (arith, slot-low (a .n .0 % 64) (a .limit) (mod-lt _ (lit< tt)) (search needs))
+    omega (arith, slot-low (a .n .0) (a .limit) (search needs))
 
 add-end : tie.Need-add-end
 add-end c =
     let a = c .before .args in
-    omega (arith, slot-low (a .n .0 % 64) (a .limit) (mod-lt _ (lit< tt)) (search needs))
-
-slice-aggregate-result : tie.Need-slice-aggregate-result
-slice-aggregate-result c = search needs
-
-returns : tie.Need-returns
-returns c = rw (lt-leb _ _ (c .before .if1 .taken))
+    omega (arith, slot-low (a .n .0) (a .limit) (search needs))
 
 sub-result : tie.Need-sub-result
 sub-result c = search needs
@@ -40,8 +32,14 @@ part-result-start c = search needs
 part-result-end : tie.Need-part-result-end
 part-result-end c = search needs
 
+returns : tie.Need-returns
+returns c = rw (le-leb _ _ (c .before .if1 .taken), add-sub-cancel-left)
+
+slice-aggregate-result : tie.Need-slice-aggregate-result
+slice-aggregate-result c = search needs
+
 returns-2 : tie.Need-returns-2
-returns-2 c = rw (le-leb _ _ (c .before .if1 .left), add-sub-cancel-left)
+returns-2 c = rw (lt-leb _ _ (c .before .if1 .left))
 
 pub slot-front-spec : {M : Type 1} → statement M
 slot-front-spec =
@@ -50,9 +48,9 @@ slot-front-spec =
     cast-start
     mul-start
     add-end
-    slice-aggregate-result
-    returns
     sub-result
     part-result-start
     part-result-end
+    returns
+    slice-aggregate-result
     returns-2)

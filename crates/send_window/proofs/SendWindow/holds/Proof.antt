@@ -1,5 +1,6 @@
 -- `SendWindow::holds`: sealed, not released, and without its mark.
 -- Assumes nothing.
+use native.Mathlib.Omega.{arith}
 use borrow.Author.Tests.{lt-ltb, le-ltb}
 use Rattle.send_window.specs.Window.{held}
 use borrow.Author.Needs.{needs}
@@ -19,7 +20,10 @@ unreleased-requires c κs = search needs
 
 returns : tie.Need-returns
 unfolding held
-returns c = rw (← c .before .before .distance .ensures, ← c .before .unreleased .ensures, le-ltb _ _ (c .if1 .taken))
+returns c =
+    let d = c .before .before .distance in
+    let n = c .before .unreleased in
+    rw (← d .ensures, ← n .ensures, le-ltb (d .result) (n .result) (omega (arith, c .if1 .taken)))
 
 cast-is-marked : tie.Need-cast-is-marked
 cast-is-marked c = search needs
@@ -30,10 +34,12 @@ is-marked-requires c κs = search needs
 returns-2 : tie.Need-returns-2
 unfolding held
 returns-2 c =
+    let d = c .before .before .before .distance in
+    let n = c .before .before .unreleased in
     rw (
-      ← c .before .before .before .distance .ensures,
-      ← c .before .before .unreleased .ensures,
-      lt-ltb _ _ (c .before .if1 .left),
+      ← d .ensures,
+      ← n .ensures,
+      lt-ltb (d .result) (n .result) (omega (arith, c .before .if1 .left)),
       c .is-marked .ensures,
     )
 

@@ -1,5 +1,6 @@
 -- `SendWindow::is_acknowledged`: the mark, or the range where the frame is sealed.
 -- Assumes nothing.
+use native.Mathlib.Omega.{arith}
 use borrow.Author.Tests.{lt-ltb, le-ltb}
 use Rattle.send_window.specs.Window.{acknowledgedBy}
 use borrow.Author.Needs.{needs}
@@ -29,7 +30,7 @@ returns-2 c =
       ← c .before .before .before .is-marked .ensures,
       c .before .before .if1 .left,
       ← c .before .unreleased .ensures,
-      le-ltb _ _ (c .if2 .taken),
+      le-ltb (c .before .before .before .before .args .i) (c .before .unreleased .result) (omega (arith, c .if2 .taken)),
     )
 
 advance-requires : tie.Need-advance-requires
@@ -41,11 +42,13 @@ distance-requires c κs = search needs
 returns-3 : tie.Need-returns-3
 unfolding acknowledgedBy
 returns-3 c =
+    let n = c .before .before .before .before .unreleased in
     rw (
       ← c .before .before .before .before .before .before .is-marked .ensures,
       c .before .before .before .before .before .if1 .left,
-      ← c .before .before .before .before .unreleased .ensures,
-      lt-ltb _ _ (c .before .before .before .if2 .left),
+      ← n .ensures,
+      lt-ltb (c .before .before .before .before .before .before .before .args .i) (n .result)
+          (omega (arith, c .before .before .before .if2 .left)),
       ← c .before .advance .ensures,
       c .distance .ensures,
     )

@@ -28,7 +28,13 @@ returns-2 : tie.Need-returns-2
 unfolding finishedBy
 returns-2 c =
     let s = c .before .before .before .before in
-    rw (← s .before .is-marked .ensures, s .if1 .left, ← c .before .distance .ensures, le-ltb _ _ (c .if2 .taken))
+    let n = c .before .distance in
+    rw (
+      ← s .before .is-marked .ensures,
+      s .if1 .left,
+      ← n .ensures,
+      le-ltb (s .before .before .args .i) (n .result) (omega (arith, c .if2 .taken)),
+    )
 
 add-is-sent : tie.Need-add-is-sent
 add-is-sent c = search needs
@@ -52,8 +58,13 @@ returns-3 c =
     let m = s .before .before .before .before in
     let a = m .before .before .args in
     let place : (a .t1 .lowest .0 % 32 + a .i % 32) % 32 ≡ (a .t1 .lowest .0 + a .i) % 32 = omega arith in
-    rw (← m .before .is-marked .ensures, m .if1 .left, ← s .before .distance .ensures, lt-ltb _ _ (s .if2 .left))
-    (c .is-sent .ensures ∙ rw (place))
+    let n = s .before .distance in
+    rw (
+      ← m .before .is-marked .ensures,
+      m .if1 .left,
+      ← n .ensures,
+      lt-ltb (a .i) (n .result) (omega (arith, s .if2 .left)),
+    ) (c .is-sent .ensures ∙ rw (place))
 
 pub is-finished-spec : {M : Type 1} → statement M
 is-finished-spec =

@@ -1,5 +1,6 @@
 -- `Sendings::opening_refusal`: 20 where the window has 32.
 -- Assumes nothing.
+use native.Mathlib.Omega.{arith}
 use borrow.Author.Tests.{lt-ltb, le-ltb}
 use Rattle.sendings.specs.Sendings.{openingRefusal}
 use borrow.Author.Needs.{needs}
@@ -14,11 +15,15 @@ distance-requires c κs = search needs
 
 returns : tie.Need-returns
 unfolding openingRefusal
-returns c = rw (← c .before .distance .ensures, lt-ltb _ _ (c .if1 .taken))
+returns c =
+    let n = c .before .distance in
+    rw (← n .ensures, lt-ltb (n .result) 32 (omega (arith, c .if1 .taken)))
 
 returns-2 : tie.Need-returns-2
 unfolding openingRefusal
-returns-2 c = rw (← c .before .distance .ensures, le-ltb _ _ (c .if1 .left))
+returns-2 c =
+    let n = c .before .distance in
+    rw (← n .ensures, le-ltb (n .result) 32 (omega (arith, c .if1 .left)))
 
 pub opening-refusal-spec : {M : Type 1} → statement M
 opening-refusal-spec = tie.close (tie.spec distance-requires returns returns-2)

@@ -1,5 +1,6 @@
 -- `Sendings::takes`: opened, and with messages to come.
 -- Assumes nothing.
+use native.Mathlib.Omega.{arith}
 use borrow.Author.Tests.{lt-ltb, le-ltb}
 use Rattle.sendings.specs.Sendings.{takes}
 use borrow.Author.Needs.{needs}
@@ -18,7 +19,10 @@ distance-requires-2 c κs = search needs
 
 returns : tie.Need-returns
 unfolding takes
-returns c = rw (← c .before .before .distance .ensures, ← c .before .distance2 .ensures, le-ltb _ _ (c .if1 .taken))
+returns c =
+    let n = c .before .before .distance in
+    let d = c .before .distance2 in
+    rw (← n .ensures, ← d .ensures, le-ltb (d .result) (n .result) (omega (arith, c .if1 .taken)))
 
 cast-e : tie.Need-cast-e
 cast-e c = search needs
@@ -36,10 +40,12 @@ returns-2 : tie.Need-returns-2
 unfolding takes
 returns-2 c =
     let s = c .before .before .before .before in
+    let n = s .before .before .distance in
+    let d = s .before .distance2 in
     rw (
-      ← s .before .before .distance .ensures,
-      ← s .before .distance2 .ensures,
-      lt-ltb _ _ (s .if1 .left),
+      ← n .ensures,
+      ← d .ensures,
+      lt-ltb (d .result) (n .result) (omega (arith, s .if1 .left)),
       c .before .messages-of .ensures,
     )
 
