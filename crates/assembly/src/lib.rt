@@ -203,15 +203,15 @@ pub fn add_message(card: Card, slots: &mut [u8], t: TransNo, at: u32, payload: &
 
 // ---- sealing
 
-// The refusals of sealing in their order: of the slots, then of an empty frame; 0 for none.
-fn seal_refusal(fitting: bool, empty: bool) -> u8
-    ensures { λ r. ⌜ r ≡ cond (not fitting) 26 (cond empty 24 0) ⌝ }
+// The refusals of sealing in their order: of the slots, then of a frame with no message; 0 for none.
+fn seal_refusal(fitting: bool, some: bool) -> u8
+    ensures { λ r. ⌜ r ≡ cond (not fitting) 26 (cond some 0 24) ⌝ }
 {
     if fitting {
-        if empty {
-            return refusal::NOTHING_TO_SEAL;
+        if some {
+            return 0;
         }
-        return 0;
+        return refusal::NOTHING_TO_SEAL;
     }
     refusal::BAD_SLOTS
 }
@@ -221,7 +221,7 @@ pub fn seal_frame(card: Card, slots: &[u8]) -> Sealed
     ensures { λ r. ⌜ r ≡ sealFrame card (now (slots .entry)) ⌝ }
 {
     let fitting = card::is_fitting(card.limit as usize, slots);
-    let refusal = seal_refusal(fitting, card.used == 0);
+    let refusal = seal_refusal(fitting, card.used != 0);
     if refusal != 0 {
         return Sealed {
             card,

@@ -1,6 +1,10 @@
 -- `seal_frame`: the frame being built gets the next number.
 -- Assumes nothing.
+use mathlib.Core.Path.{_≡_, refl}
+use mathlib.Core.Bool.{Bool, true, false, cond, not}
+use Prim.Native.Nat.{ℕ}
 use borrow.Author.Tests.{eq-eqb, ne-eqb}
+use lib.Dec.{eqb}
 use Rattle.card.specs.Card.{sealRefusal, sealFrame}
 use borrow.Author.Needs.{needs}
 use Rattle.assembly.proofs.seal_frame.Statement.{statement}
@@ -10,6 +14,10 @@ use Rattle.assembly.proofs.seal_frame.Lts as lts
 use Rattle.assembly.proofs.seal_refusal.Reads as seal-refusal-reads
 use Rattle.card.proofs.is_fitting.Reads as is-fitting-reads
 use Rattle.send_window.proofs.SendWindow.seal.Reads as seal-reads
+
+turned : (b : Bool) (x y : ℕ) → cond (not b) x y ≡ cond b y x
+turned true x y = refl
+turned false x y = refl
 
 cast-is-fitting : tie.Need-cast-is-fitting
 cast-is-fitting c = search needs
@@ -23,7 +31,13 @@ seal-refusal-requires c κs = search needs
 returns : tie.Need-returns
 unfolding sealFrame sealRefusal
 returns c =
-    rw (← c .before .before .before .is-fitting .ensures, ← c .before .seal-refusal .ensures, ne-eqb _ 0 (c .if1 .taken))
+    let a = c .before .before .before .before .before .before .args in
+    rw (
+      ← c .before .before .before .is-fitting .ensures,
+      ← turned (eqb (a .card .used) 0) 0 24,
+      ← c .before .seal-refusal .ensures,
+      ne-eqb _ 0 (c .if1 .taken),
+    )
 
 seal-requires : tie.Need-seal-requires
 seal-requires c κs = search needs
@@ -31,9 +45,11 @@ seal-requires c κs = search needs
 returns-2 : tie.Need-returns-2
 unfolding sealFrame sealRefusal
 returns-2 c =
+    let a = c .before .before .before .before .before .before .before .before .args in
     rw (
       c .seal .ensures,
       ← c .before .before .before .before .before .is-fitting .ensures,
+      ← turned (eqb (a .card .used) 0) 0 24,
       ← c .before .before .before .seal-refusal .ensures,
       eq-eqb _ 0 (c .before .before .if1 .left),
     )
