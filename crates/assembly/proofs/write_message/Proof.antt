@@ -25,10 +25,14 @@ cast-start : tie.Need-cast-start
 cast-start c = search needs
 
 mul-start : tie.Need-mul-start
-mul-start c = let a = c .before .before .before .before .args in omega (arith, slot-low (building (a .card)) (a .card .limit) (search needs))
+mul-start c =
+    let c4 = c .before .before .before .before in
+    let a = c4 .args in omega (arith, slot-low (building (a .card)) (a .card .limit) (search needs))
 
 add-end : tie.Need-add-end
-add-end c = let a = c .before .before .before .before .args in omega (arith, slot-low (building (a .card)) (a .card .limit) (search needs))
+add-end c =
+    let c4 = c .before .before .before .before in
+    let a = c4 .args in omega (arith, slot-low (building (a .card)) (a .card .limit) (search needs))
 
 header-of-requires : tie.Need-header-of-requires
 header-of-requires c κs = search needs

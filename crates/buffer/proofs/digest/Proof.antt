@@ -37,7 +37,10 @@ loop-less : tie.Need-loop-less Inv-loop μ-loop
 loop-less c = omega arith
 
 loop-again : tie.Need-loop-again Inv-loop μ-loop
-loop-again c = hashed-turn _ _ (c .before .before .before .loop-test .taken) (c .before .before .before .before .loop .inv) (c .before .wide .ensures) (c .times-prime .ensures)
+loop-again c =
+    let c4 = c .before .before .before .before in
+    hashed-turn _ _ (c .before .before .before .loop-test .taken) (c4 .loop .inv) (c .before .wide .ensures)
+    (c .times-prime .ensures)
 
 returns : tie.Need-returns Inv-loop μ-loop
 returns c = hashed-done (c .loop-test .left) (c .before .loop .inv)

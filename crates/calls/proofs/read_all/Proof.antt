@@ -56,7 +56,9 @@ slice-reshare-prefix-take-piece : tie.Need-slice-reshare-prefix-take-piece Inv-l
 slice-reshare-prefix-take-piece c = search needs
 
 slice-aggregate-take-piece : tie.Need-slice-aggregate-take-piece Inv-loop μ-loop
-slice-aggregate-take-piece c = sym (length-take-le _ _ (omega (arith, c .before .before .before .before .read-some .ensures, c .before .before .before .before .read-some .kept .0)))
+slice-aggregate-take-piece c =
+    let c4 = c .before .before .before .before in
+    sym (length-take-le _ _ (omega (arith, c4 .read-some .ensures, c4 .read-some .kept .0)))
 
 take-piece-requires : tie.Need-take-piece-requires Inv-loop μ-loop
 take-piece-requires c κs = search needs
@@ -65,13 +67,18 @@ write-out-requires : tie.Need-write-out-requires Inv-loop μ-loop
 write-out-requires c κs = search needs
 
 loop-less : tie.Need-loop-less Inv-loop μ-loop
-loop-less c = omega (arith, c .before .before .before .before .before .before .before .before .before .before .before .before .before .before .before .before .before .before .before .before .before .before .before .before .before .loop-test .taken)
+loop-less c =
+    let c25 = c .before .before .before .before .before .before .before .before .before .before .before .before .before .before .before .before .before .before .before .before .before .before .before .before .before in
+    omega (arith, c25 .loop-test .taken)
 
 loop-again : tie.Need-loop-again Inv-loop μ-loop
 loop-again c =
-    let k = c .before .before .before .before .before .before .before .before .before .before .before .before .before .before .before .before .before .before .before .before .before .before .before .before .before .before .loop .inv in
-    let e = c .before .before .before .before .before .before .before .before .before .before .before .before .before .take-piece .kept in (
-      c .before .before .before .before .before .before .before .before .before .before .before .before .before .before .before .before .before .before .before .before .before .before .before .read-some .kept .0 ∙ k .0,
+    let c13 = c .before .before .before .before .before .before .before .before .before .before .before .before .before in
+    let c23 = c13 .before .before .before .before .before .before .before .before .before .before in
+    let c26 = c23 .before .before .before in
+    let k = c26 .loop .inv in
+    let e = c13 .take-piece .kept in (
+      c23 .read-some .kept .0 ∙ k .0,
       e .1 .1 .0 ∙ k .1,
       e .1 .1 .1 .0 ∙ k .2,
       e .1 .1 .1 .1 .0 ∙ k .3,

@@ -44,16 +44,24 @@ answer-line-requires : tie.Need-answer-line-requires Inv-loop μ-loop
 answer-line-requires c κs = search needs
 
 loop-less : tie.Need-loop-less Inv-loop μ-loop
-loop-less c = omega (arith, further _ _ _ _ _ (c .before .before .before .before .before .before .before .before .before .before .before .before .before .before .before .before .before .before .before .gather .ensures .0) (c .before .before .before .before .before .before .before .before .before .before .before .before .before .before .before .before .before .before .before .before .before .loop-test .taken), c .before .before .before .before .before .before .before .before .before .before .before .before .before .before .before .before .before .before .before .before .before .loop-test .taken)
+loop-less c =
+    let c19 = c .before .before .before .before .before .before .before .before .before .before .before .before .before .before .before .before .before .before .before in
+    let c21 = c19 .before .before in
+    omega (arith, further _ _ _ _ _ (c19 .gather .ensures .0) (c21 .loop-test .taken), c21 .loop-test .taken)
 
 loop-again : tie.Need-loop-again Inv-loop μ-loop
 loop-again c =
-    let k = c .before .before .before .before .before .before .before .before .before .before .before .before .before .before .before .before .before .before .before .before .before .before .loop .inv in
-    let e = c .before .before .before .before .before .before .before .before .before .answer-line .kept in
-    (c .before .before .before .before .before .before .before .before .before .before .before .before .before .before .before .before .before .before .before .gather .kept .1 .0 ∙ k .0, e .1 .1 .0 ∙ k .1, e .1 .1 .1 .0 ∙ k .2, e .1 .1 .1 .1 .0 ∙ k .3, e .1 .1 .1 .1 .1 .0 ∙ k .4)
+    let c9 = c .before .before .before .before .before .before .before .before .before in
+    let c19 = c9 .before .before .before .before .before .before .before .before .before .before in
+    let c22 = c19 .before .before .before in
+    let k = c22 .loop .inv in
+    let e = c9 .answer-line .kept in
+    (c19 .gather .kept .1 .0 ∙ k .0, e .1 .1 .0 ∙ k .1, e .1 .1 .1 .0 ∙ k .2, e .1 .1 .1 .1 .0 ∙ k .3, e .1 .1 .1 .1 .1 .0 ∙ k .4)
 
 loop-less-2 : tie.Need-loop-less-2 Inv-loop μ-loop
-loop-less-2 c = omega (arith, further _ _ _ _ _ (c .before .before .before .gather .ensures .0) (c .before .before .before .before .before .loop-test .taken), c .before .before .before .before .before .loop-test .taken)
+loop-less-2 c =
+    let c5 = c .before .before .before .before .before in
+    omega (arith, further _ _ _ _ _ (c .before .before .before .gather .ensures .0) (c5 .loop-test .taken), c5 .loop-test .taken)
 
 loop-again-2 : tie.Need-loop-again-2 Inv-loop μ-loop
 loop-again-2 c =

@@ -63,16 +63,26 @@ wrapping-add-u64-requires : tie.Need-wrapping-add-u64-requires Inv-loop μ-loop
 wrapping-add-u64-requires c κs = search needs
 
 add-k : tie.Need-add-k Inv-loop μ-loop
-add-k c = omega (arith, c .before .before .before .before .before .before .before .before .before .loop .inv, c .before .before .before .before .before .before .before .before .loop-test .taken)
+add-k c =
+    let c8 = c .before .before .before .before .before .before .before .before in
+    let c9 = c8 .before in
+    omega (arith, c9 .loop .inv, c8 .loop-test .taken)
 
 loop-less : tie.Need-loop-less Inv-loop μ-loop
-loop-less c = omega (arith, c .before .before .before .before .before .before .before .before .before .loop .inv, c .before .before .before .before .before .before .before .before .loop-test .taken)
+loop-less c =
+    let c8 = c .before .before .before .before .before .before .before .before in
+    let c9 = c8 .before in
+    omega (arith, c9 .loop .inv, c8 .loop-test .taken)
 
 loop-again : tie.Need-loop-again Inv-loop μ-loop
 loop-again c =
-    let a = c .before .before .before .before .before .before .before .before .before .before .before .before .before .before .before .args in
-    running-turn (c .before .before .before .before .before .before .before .before .before .loop .inv) _ _ _ _ (c .before .before .before .before .before .before .before .before .loop-test .taken) (c .before .before .before .before .receive .kept .1 .1 .0)
-    (rw add-sub-cancel-left at (c .before .before .before .before .receive .ensures .0)) (rw add-sub-cancel-left at (c .before .before .before .before .receive .ensures .1))
+    let c4 = c .before .before .before .before in
+    let c8 = c4 .before .before .before .before in
+    let c9 = c8 .before in
+    let c15 = c9 .before .before .before .before .before .before in
+    let a = c15 .args in
+    running-turn (c9 .loop .inv) _ _ _ _ (c8 .loop-test .taken) (c4 .receive .kept .1 .1 .0)
+    (rw add-sub-cancel-left at (c4 .receive .ensures .0)) (rw add-sub-cancel-left at (c4 .receive .ensures .1))
     (c .before .bytes-of .ensures) (c .wrapping-add-u64 .ensures)
 
 same-length : tie.Need-same-length Inv-loop μ-loop

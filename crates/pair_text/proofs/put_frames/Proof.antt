@@ -48,12 +48,18 @@ same-length c = search needs
 returns : tie.Need-returns
 unfolding framesPieces
 returns c =
-    let a = c .before .before .before .before .before .before .before .before .before .before .before .before .before .before .before .before .before .before .before .before .before .before .before .before .before .args in
+    let c6 = c .before .before .before .before .before .before in
+    let c11 = c6 .before .before .before .before .before in
+    let c16 = c11 .before .before .before .before .before in
+    let c21 = c16 .before .before .before .before .before in
+    let c25 = c21 .before .before .before .before in
+    let a = c25 .args in
     let b = from (a .out .now) (a .at) in
-    let h1 = c .before .before .before .before .before .before .before .before .before .before .before .before .before .before .before .before .before .before .before .before .before .put-field .ensures in
-    let h2 = then b ((111 ∷ 119 ∷ 110 ∷ 32 ∷ []) ∷ decimal (a .own) ∷ []) ((32 ∷ 112 ∷ 101 ∷ 101 ∷ 114 ∷ 32 ∷ []) ∷ decimal (a .peer) ∷ []) h1 (c .before .before .before .before .before .before .before .before .before .before .before .before .before .before .before .before .put-field2 .ensures) in
-    let h3 = then b (((111 ∷ 119 ∷ 110 ∷ 32 ∷ []) ∷ decimal (a .own) ∷ []) ++ ((32 ∷ 112 ∷ 101 ∷ 101 ∷ 114 ∷ 32 ∷ []) ∷ decimal (a .peer) ∷ [])) ((32 ∷ 110 ∷ 101 ∷ 120 ∷ 116 ∷ 32 ∷ []) ∷ decimal (a .next) ∷ []) h2 (c .before .before .before .before .before .before .before .before .before .before .before .put-field3 .ensures) in
-    let h4 = then b ((((111 ∷ 119 ∷ 110 ∷ 32 ∷ []) ∷ decimal (a .own) ∷ []) ++ ((32 ∷ 112 ∷ 101 ∷ 101 ∷ 114 ∷ 32 ∷ []) ∷ decimal (a .peer) ∷ [])) ++ ((32 ∷ 110 ∷ 101 ∷ 120 ∷ 116 ∷ 32 ∷ []) ∷ decimal (a .next) ∷ [])) ((32 ∷ 109 ∷ 97 ∷ 114 ∷ 107 ∷ 115 ∷ 32 ∷ []) ∷ []) h3 (one _ (32 ∷ 109 ∷ 97 ∷ 114 ∷ 107 ∷ 115 ∷ 32 ∷ []) (c .before .before .before .before .before .before .put-word .ensures)) in
+    let h1 = c21 .put-field .ensures in
+    let h2 = then b ((111 ∷ 119 ∷ 110 ∷ 32 ∷ []) ∷ decimal (a .own) ∷ [])
+    ((32 ∷ 112 ∷ 101 ∷ 101 ∷ 114 ∷ 32 ∷ []) ∷ decimal (a .peer) ∷ []) h1 (c16 .put-field2 .ensures) in
+    let h3 = then b (((111 ∷ 119 ∷ 110 ∷ 32 ∷ []) ∷ decimal (a .own) ∷ []) ++ ((32 ∷ 112 ∷ 101 ∷ 101 ∷ 114 ∷ 32 ∷ []) ∷ decimal (a .peer) ∷ [])) ((32 ∷ 110 ∷ 101 ∷ 120 ∷ 116 ∷ 32 ∷ []) ∷ decimal (a .next) ∷ []) h2 (c11 .put-field3 .ensures) in
+    let h4 = then b ((((111 ∷ 119 ∷ 110 ∷ 32 ∷ []) ∷ decimal (a .own) ∷ []) ++ ((32 ∷ 112 ∷ 101 ∷ 101 ∷ 114 ∷ 32 ∷ []) ∷ decimal (a .peer) ∷ [])) ++ ((32 ∷ 110 ∷ 101 ∷ 120 ∷ 116 ∷ 32 ∷ []) ∷ decimal (a .next) ∷ [])) ((32 ∷ 109 ∷ 97 ∷ 114 ∷ 107 ∷ 115 ∷ 32 ∷ []) ∷ []) h3 (one _ (32 ∷ 109 ∷ 97 ∷ 114 ∷ 107 ∷ 115 ∷ 32 ∷ []) (c6 .put-word .ensures)) in
     let h5 = then b (((((111 ∷ 119 ∷ 110 ∷ 32 ∷ []) ∷ decimal (a .own) ∷ []) ++ ((32 ∷ 112 ∷ 101 ∷ 101 ∷ 114 ∷ 32 ∷ []) ∷ decimal (a .peer) ∷ [])) ++ ((32 ∷ 110 ∷ 101 ∷ 120 ∷ 116 ∷ 32 ∷ []) ∷ decimal (a .next) ∷ [])) ++ ((32 ∷ 109 ∷ 97 ∷ 114 ∷ 107 ∷ 115 ∷ 32 ∷ []) ∷ [])) ((digits 16 16 (a .marks)) ∷ []) h4 (one _ (digits 16 16 (a .marks)) (c .before .before .put-hex64 .ensures)) in
     h5
 

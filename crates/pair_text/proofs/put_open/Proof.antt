@@ -64,23 +64,36 @@ put-word-requires c κs = search needs
 
 same-length : tie.Need-same-length
 same-length c =
+    let c7 = c .before .before .before .before .before .before .before in
+    let c13 = c7 .before .before .before .before .before .before in
+    let c19 = c13 .before .before .before .before .before .before in
+    let c25 = c19 .before .before .before .before .before .before in
+    let c31 = c25 .before .before .before .before .before .before in
     c .before .before .put-word .kept .0
-    ∙ c .before .before .before .before .before .before .before .put-field5 .kept .0
-    ∙ c .before .before .before .before .before .before .before .before .before .before .before .before .before .put-field4 .kept .0
-    ∙ c .before .before .before .before .before .before .before .before .before .before .before .before .before .before .before .before .before .before .before .put-field3 .kept .0
-    ∙ c .before .before .before .before .before .before .before .before .before .before .before .before .before .before .before .before .before .before .before .before .before .before .before .before .before .put-field2 .kept .0
-    ∙ c .before .before .before .before .before .before .before .before .before .before .before .before .before .before .before .before .before .before .before .before .before .before .before .before .before .before .before .before .before .before .before .put-field .kept .0
+    ∙ c7 .put-field5 .kept .0
+    ∙ c13 .put-field4 .kept .0
+    ∙ c19 .put-field3 .kept .0
+    ∙ c25 .put-field2 .kept .0
+    ∙ c31 .put-field .kept .0
 
 returns : tie.Need-returns
 unfolding openPieces
 returns c =
-    let a = c .before .before .before .before .before .before .before .before .before .before .before .before .before .before .before .before .before .before .before .before .before .before .before .before .before .before .before .before .before .before .before .before .before .before .before .args in
+    let c7 = c .before .before .before .before .before .before .before in
+    let c13 = c7 .before .before .before .before .before .before in
+    let c19 = c13 .before .before .before .before .before .before in
+    let c25 = c19 .before .before .before .before .before .before in
+    let c31 = c25 .before .before .before .before .before .before in
+    let c35 = c31 .before .before .before .before in
+    let a = c35 .args in
     let b = from (a .out .now) (a .at) in
-    let h1 = c .before .before .before .before .before .before .before .before .before .before .before .before .before .before .before .before .before .before .before .before .before .before .before .before .before .before .before .before .before .before .before .put-field .ensures in
-    let h2 = then b ((32 ∷ 91 ∷ []) ∷ decimal (a .number) ∷ []) ((32 ∷ []) ∷ decimal (a .o .target) ∷ []) h1 (c .before .before .before .before .before .before .before .before .before .before .before .before .before .before .before .before .before .before .before .before .before .before .before .before .before .put-field2 .ensures) in
-    let h3 = then b (((32 ∷ 91 ∷ []) ∷ decimal (a .number) ∷ []) ++ ((32 ∷ []) ∷ decimal (a .o .target) ∷ [])) ((32 ∷ []) ∷ decimal (a .o .value) ∷ []) h2 (c .before .before .before .before .before .before .before .before .before .before .before .before .before .before .before .before .before .before .before .put-field3 .ensures) in
-    let h4 = then b ((((32 ∷ 91 ∷ []) ∷ decimal (a .number) ∷ []) ++ ((32 ∷ []) ∷ decimal (a .o .target) ∷ [])) ++ ((32 ∷ []) ∷ decimal (a .o .value) ∷ [])) ((32 ∷ []) ∷ decimal (a .o .count) ∷ []) h3 (c .before .before .before .before .before .before .before .before .before .before .before .before .before .put-field4 .ensures) in
-    let h5 = then b (((((32 ∷ 91 ∷ []) ∷ decimal (a .number) ∷ []) ++ ((32 ∷ []) ∷ decimal (a .o .target) ∷ [])) ++ ((32 ∷ []) ∷ decimal (a .o .value) ∷ [])) ++ ((32 ∷ []) ∷ decimal (a .o .count) ∷ [])) ((32 ∷ []) ∷ decimal (a .o .received) ∷ []) h4 (c .before .before .before .before .before .before .before .put-field5 .ensures) in
+    let h1 = c31 .put-field .ensures in
+    let h2 = then b ((32 ∷ 91 ∷ []) ∷ decimal (a .number) ∷ []) ((32 ∷ []) ∷ decimal (a .o .target) ∷ []) h1
+    (c25 .put-field2 .ensures) in
+    let h3 = then b (((32 ∷ 91 ∷ []) ∷ decimal (a .number) ∷ []) ++ ((32 ∷ []) ∷ decimal (a .o .target) ∷ []))
+    ((32 ∷ []) ∷ decimal (a .o .value) ∷ []) h2 (c19 .put-field3 .ensures) in
+    let h4 = then b ((((32 ∷ 91 ∷ []) ∷ decimal (a .number) ∷ []) ++ ((32 ∷ []) ∷ decimal (a .o .target) ∷ [])) ++ ((32 ∷ []) ∷ decimal (a .o .value) ∷ [])) ((32 ∷ []) ∷ decimal (a .o .count) ∷ []) h3 (c13 .put-field4 .ensures) in
+    let h5 = then b (((((32 ∷ 91 ∷ []) ∷ decimal (a .number) ∷ []) ++ ((32 ∷ []) ∷ decimal (a .o .target) ∷ [])) ++ ((32 ∷ []) ∷ decimal (a .o .value) ∷ [])) ++ ((32 ∷ []) ∷ decimal (a .o .count) ∷ [])) ((32 ∷ []) ∷ decimal (a .o .received) ∷ []) h4 (c7 .put-field5 .ensures) in
     let h6 = then b ((((((32 ∷ 91 ∷ []) ∷ decimal (a .number) ∷ []) ++ ((32 ∷ []) ∷ decimal (a .o .target) ∷ [])) ++ ((32 ∷ []) ∷ decimal (a .o .value) ∷ [])) ++ ((32 ∷ []) ∷ decimal (a .o .count) ∷ [])) ++ ((32 ∷ []) ∷ decimal (a .o .received) ∷ [])) ((32 ∷ 48 ∷ 93 ∷ []) ∷ []) h5 (one _ (32 ∷ 48 ∷ 93 ∷ []) (c .before .before .put-word .ensures)) in
     h6
 

@@ -28,13 +28,16 @@ same-length c = search needs
 returns : tie.Need-returns
 unfolding pairPieces
 returns c =
-    let a = c .before .before .before .before .before .before .before .before .before .before .before .before .before .before .before .before .args in
+    let c6 = c .before .before .before .before .before .before in
+    let c10 = c6 .before .before .before .before in
+    let c16 = c10 .before .before .before .before .before .before in
+    let a = c16 .args in
     let p = a .pair in
     let f = framesPieces (p .own) (p .peer) (p .next .0) (p .marks) in
     let t = transactionsPieces (p .lowest .0) (p .closed) in
     let l = tablePieces 32 0 (p .lowest .0) (p .table) in
     let b = from (a .out .now) (a .at) in
-    then b (f ++ t) l (then b f t (c .before .before .before .before .before .before .before .before .before .before .put-frames .ensures) (c .before .before .before .before .before .before .put-transactions .ensures))
+    then b (f ++ t) l (then b f t (c10 .put-frames .ensures) (c6 .put-transactions .ensures))
     (c .before .before .put-table .ensures)
 
 pub put-pair-spec : {M : Type 1} → statement M

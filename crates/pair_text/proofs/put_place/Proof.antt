@@ -22,8 +22,10 @@ same-length c = search needs
 
 returns-2 : tie.Need-returns-2
 returns-2 c =
-    let a = c .before .before .before .before .before .before .before .args in
-    place-open (from (a .out .now) (a .at)) (a .number) (a .o) (c .before .before .before .before .if1 .left) (c .before .before .put-open .ensures)
+    let c4 = c .before .before .before .before in
+    let c7 = c4 .before .before .before in
+    let a = c7 .args in
+    place-open (from (a .out .now) (a .at)) (a .number) (a .o) (c4 .if1 .left) (c .before .before .put-open .ensures)
 
 pub put-place-spec : {M : Type 1} → statement M
 put-place-spec = tie.close (tie.spec returns put-open-requires same-length returns-2)

@@ -36,10 +36,15 @@ same-length c = search needs
 returns : tie.Need-returns
 unfolding transactionsPieces
 returns c =
-    let a = c .before .before .before .before .before .before .before .before .before .before .before .before .before .before .before .args in
+    let c6 = c .before .before .before .before .before .before in
+    let c11 = c6 .before .before .before .before .before in
+    let c15 = c11 .before .before .before .before in
+    let a = c15 .args in
     let b = from (a .out .now) (a .at) in
-    let h1 = c .before .before .before .before .before .before .before .before .before .before .before .put-field .ensures in
-    let h2 = then b ((32 ∷ 108 ∷ 111 ∷ 119 ∷ 101 ∷ 115 ∷ 116 ∷ 32 ∷ []) ∷ decimal (a .lowest) ∷ []) ((32 ∷ 99 ∷ 108 ∷ 111 ∷ 115 ∷ 101 ∷ 100 ∷ 32 ∷ []) ∷ []) h1 (one _ (32 ∷ 99 ∷ 108 ∷ 111 ∷ 115 ∷ 101 ∷ 100 ∷ 32 ∷ []) (c .before .before .before .before .before .before .put-word .ensures)) in
+    let h1 = c11 .put-field .ensures in
+    let h2 = then b ((32 ∷ 108 ∷ 111 ∷ 119 ∷ 101 ∷ 115 ∷ 116 ∷ 32 ∷ []) ∷ decimal (a .lowest) ∷ [])
+    ((32 ∷ 99 ∷ 108 ∷ 111 ∷ 115 ∷ 101 ∷ 100 ∷ 32 ∷ []) ∷ []) h1
+    (one _ (32 ∷ 99 ∷ 108 ∷ 111 ∷ 115 ∷ 101 ∷ 100 ∷ 32 ∷ []) (c6 .put-word .ensures)) in
     let h3 = then b (((32 ∷ 108 ∷ 111 ∷ 119 ∷ 101 ∷ 115 ∷ 116 ∷ 32 ∷ []) ∷ decimal (a .lowest) ∷ []) ++ ((32 ∷ 99 ∷ 108 ∷ 111 ∷ 115 ∷ 101 ∷ 100 ∷ 32 ∷ []) ∷ [])) ((digits 16 8 (a .closed)) ∷ []) h2 (one _ (digits 16 8 (a .closed)) (c .before .before .put-hex32 .ensures)) in
     h3
 

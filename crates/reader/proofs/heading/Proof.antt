@@ -18,7 +18,9 @@ returns-2 : tie.Need-returns-2
 returns-2 c = let a = c .before .before .before .args in sym (heading-2 (a .ids) (a .f .now) (c .if2 .taken))
 
 returns-3 : tie.Need-returns-3
-returns-3 c = let a = c .before .before .before .before .args in sym (heading-3 (a .ids) (a .f .now) (omega arith) (omega arith) (not-true _ (c .if3 .taken)))
+returns-3 c =
+    let c4 = c .before .before .before .before in
+    let a = c4 .args in sym (heading-3 (a .ids) (a .f .now) (omega arith) (omega arith) (not-true _ (c .if3 .taken)))
 
 byte-or-zero-requires : tie.Need-byte-or-zero-requires
 byte-or-zero-requires c κs = search needs

@@ -39,8 +39,10 @@ walk-requires c κs =
 
 returns-3 : tie.Need-returns-3
 returns-3 c =
-    let a = c .before .before .before .before .before .before .args in
-    let h = heading-stands (a .ids) (a .f .now) _ (c .before .before .before .before .heading .ensures) (c .before .before .before .if1 .left) in
+    let c4 = c .before .before .before .before in
+    let c6 = c4 .before .before in
+    let a = c6 .args in
+    let h = heading-stands (a .ids) (a .f .now) _ (c4 .heading .ensures) (c .before .before .before .if1 .left) in
     c .walk .ensures
     ∙ ap layoutOf (sym (read-messages (a .ids) (a .f .now) (h .least) (h .most) (h .right) (omega (arith, h .flag))))
 

@@ -19,8 +19,10 @@ is-refused-requires c κs = search needs
 returns : tie.Need-returns
 unfolding answeredLine
 returns c =
-    let a = c .before .before .before .before .args in
-    let e : answeredLine (a .pair) (a .line) (a .frame .now) (a .memory .now) ≡ unchanged (a .pair) (a .memory .now) (refused 14 0) =
+    let c4 = c .before .before .before .before in
+    let a = c4 .args in
+    let e : answeredLine (a .pair) (a .line) (a .frame .now) (a .memory .now) ≡ unchanged (a .pair) (a .memory .now)
+    (refused 14 0) =
     rw (← c .before .is-refused .ensures, c .if1 .taken) in
     (sym (ap steppedOf e), sym (ap (λ (r : Received). r .memory) e))
 
@@ -36,11 +38,15 @@ same-length c = search needs
 returns-2 : tie.Need-returns-2
 unfolding answeredLine
 returns-2 c =
-    let a = c .before .before .before .before .before .before .before .before .before .args in
+    let c4 = c .before .before .before .before in
+    let c5 = c4 .before in
+    let c6 = c5 .before in
+    let c9 = c6 .before .before .before in
+    let a = c9 .args in
     let e : answeredLine (a .pair) (a .line) (a .frame .now) (a .memory .now)
     ≡ receiveOf (a .pair) (take (a .line .len) (a .frame .now)) (a .memory .now) =
-    rw (← c .before .before .before .before .before .before .is-refused .ensures, c .before .before .before .before .before .if1 .left) in
-    let f = c .before .before .before .before .front .ensures in (
+    rw (← c6 .is-refused .ensures, c5 .if1 .left) in
+    let f = c4 .front .ensures in (
       (rw f at (c .before .before .receive .ensures .0)) ∙ sym (ap steppedOf e),
       (rw f at (c .before .before .receive .ensures .1)) ∙ sym (ap (λ (r : Received). r .memory) e),
     )

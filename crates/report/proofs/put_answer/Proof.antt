@@ -65,25 +65,41 @@ same-length : tie.Need-same-length
 same-length c = search needs
 
 returns : tie.Need-returns
-returns c = (rw (c .before .before .before .before .before .before .before .before .before .before .answer .given .1) (c .before .before .put-line .ensures .0), rw (c .before .before .before .before .before .before .before .before .before .before .answer .given .1) (c .before .before .put-line .ensures .1))
+returns c =
+    let c10 = c .before .before .before .before .before .before .before .before .before .before in (
+      rw (c10 .answer .given .1) (c .before .before .put-line .ensures .0),
+      rw (c10 .answer .given .1) (c .before .before .put-line .ensures .1),
+    )
 
 same-length-2 : tie.Need-same-length-2
 same-length-2 c = search needs
 
 returns-2 : tie.Need-returns-2
-returns-2 c = (rw (c .before .before .before .before .before .before .before .answer2 .given .1) (c .before .before .put-line2 .ensures .0), rw (c .before .before .before .before .before .before .before .answer2 .given .1) (c .before .before .put-line2 .ensures .1))
+returns-2 c =
+    let c7 = c .before .before .before .before .before .before .before in (
+      rw (c7 .answer2 .given .1) (c .before .before .put-line2 .ensures .0),
+      rw (c7 .answer2 .given .1) (c .before .before .put-line2 .ensures .1),
+    )
 
 same-length-3 : tie.Need-same-length-3
 same-length-3 c = search needs
 
 returns-3 : tie.Need-returns-3
-returns-3 c = (rw (c .before .before .before .before .before .enum-told .given .1) (c .before .before .put-line3 .ensures .0), rw (c .before .before .before .before .before .enum-told .given .1) (c .before .before .put-line3 .ensures .1))
+returns-3 c =
+    let c5 = c .before .before .before .before .before in (
+      rw (c5 .enum-told .given .1) (c .before .before .put-line3 .ensures .0),
+      rw (c5 .enum-told .given .1) (c .before .before .put-line3 .ensures .1),
+    )
 
 same-length-4 : tie.Need-same-length-4
 same-length-4 c = search needs
 
 returns-4 : tie.Need-returns-4
-returns-4 c = (rw (c .before .before .before .before .before .before .before .answer3 .given .1) (c .before .before .put-line4 .ensures .0), rw (c .before .before .before .before .before .before .before .answer3 .given .1) (c .before .before .put-line4 .ensures .1))
+returns-4 c =
+    let c7 = c .before .before .before .before .before .before .before in (
+      rw (c7 .answer3 .given .1) (c .before .before .put-line4 .ensures .0),
+      rw (c7 .answer3 .given .1) (c .before .before .put-line4 .ensures .1),
+    )
 
 pub put-answer-spec : {M : Type 1} → statement M
 put-answer-spec =

@@ -29,7 +29,8 @@ first-refusal-requires c κs = search needs
 returns : tie.Need-returns
 unfolding chooseRefusal
 returns c =
-    rw (← c .before .before .before .is-fitting .ensures, ← c .before .before .is-ack .ensures, ← c .before .is-any-held .ensures) (c .first-refusal .ensures)
+    rw (← c .before .before .before .is-fitting .ensures, ← c .before .before .is-ack .ensures, ← c .before .is-any-held .ensures)
+    (c .first-refusal .ensures)
 
 pub choose-refusal-spec : {M : Type 1} → statement M
 choose-refusal-spec =

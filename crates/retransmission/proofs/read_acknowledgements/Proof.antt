@@ -21,7 +21,8 @@ returns : tie.Need-returns
 unfolding readAcks
 returns c =
     let a = c .before .before .before .args in
-    let r : c .before .refusal-of .result ≡ refusalOf (readFrame (addressed (a .card .own) (a .card .peer) (a .f .now)) (a .f .now)) =
+    let r : c .before .refusal-of .result ≡ refusalOf
+    (readFrame (addressed (a .card .own) (a .card .peer) (a .f .now)) (a .f .now)) =
     c .before .refusal-of .ensures in
     rw (← r, ne-eqb _ 0 (c .if1 .taken))
 

@@ -31,6 +31,7 @@ no-numbers-requires c κs = search needs
 returns : tie.Need-returns Inv-loop μ-loop
 returns c =
     let c5 = c .before .before .before .before .before in
+    let c5 = c5 in
     rw (c .no-numbers .ensures)
     (reads-missing (c .before .before .before .loop .inv) (c5 .pre .0) (c5 .pre .1) (c .before .before .loop-test .taken) (c .before .if1 .taken))
 
@@ -72,6 +73,7 @@ no-numbers-requires-2 c κs = search needs
 returns-2 : tie.Need-returns-2 Inv-loop μ-loop
 returns-2 c =
     let c5 = c .before .before .before .before .before in
+    let c5 = c5 in
     let c6 = c5 .before in
     let c7 = c6 .before in
     let c8 = c7 .before in

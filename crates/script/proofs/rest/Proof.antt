@@ -57,6 +57,7 @@ same-length c = search needs
 returns-4 : tie.Need-returns-4
 returns-4 c =
     let c5 = c .before .before .before .before .before in
+    let c5 = c5 in
     let c8 = c5 .before .before .before in
     let c9 = c8 .before in
     let c12 = c9 .before .before .before in

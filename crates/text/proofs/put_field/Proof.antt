@@ -23,9 +23,11 @@ same-length c = search needs
 
 returns : tie.Need-returns
 returns c =
-    let a = c .before .before .before .before .before .before .before .before .before .before .args in
+    let c6 = c .before .before .before .before .before .before in
+    let c10 = c6 .before .before .before .before in
+    let a = c10 .args in
     let b = from (a .out .now) (a .at) in
-    then b (a .word .now ∷ []) (decimal (a .x) ∷ []) (one b (a .word .now) (c .before .before .before .before .before .before .put-word .ensures))
+    then b (a .word .now ∷ []) (decimal (a .x) ∷ []) (one b (a .word .now) (c6 .put-word .ensures))
     (one _ (decimal (a .x)) (c .before .before .put-decimal .ensures))
 
 pub put-field-spec : {M : Type 1} → statement M

@@ -17,11 +17,16 @@ returns-2 c = rw (ne-eqb _ _ (c .before .before .before .if1 .left), ne-eqb _ _ 
 
 returns-3 : tie.Need-returns-3
 unfolding agrees
-returns-3 c = rw (ne-eqb _ _ (c .before .before .before .before .before .before .if1 .left), eq-eqb _ _ (c .before .before .before .if2 .left), ne-eqb _ _ (c .if3 .taken))
+returns-3 c =
+    let c6 = c .before .before .before .before .before .before in
+    rw (ne-eqb _ _ (c6 .if1 .left), eq-eqb _ _ (c .before .before .before .if2 .left), ne-eqb _ _ (c .if3 .taken))
 
 returns-4 : tie.Need-returns-4
 unfolding agrees
-returns-4 c = rw (ne-eqb _ _ (c .before .before .before .before .before .before .before .before .if1 .left), eq-eqb _ _ (c .before .before .before .before .before .if2 .left), eq-eqb _ _ (c .before .before .if3 .left))
+returns-4 c =
+    let c5 = c .before .before .before .before .before in
+    let c8 = c5 .before .before .before in
+    rw (ne-eqb _ _ (c8 .if1 .left), eq-eqb _ _ (c5 .if2 .left), eq-eqb _ _ (c .before .before .if3 .left))
 
 pub has-same-terms-spec : {M : Type 1} → statement M
 has-same-terms-spec = tie.close (tie.spec returns returns-2 returns-3 returns-4)

@@ -51,17 +51,34 @@ returns-3 c =
 
 returns-4 : tie.Need-returns-4
 returns-4 c =
-    let left = up-to-ten _ _ _ _ (c .before .before .before .before .before .before .before .before .args .len) _ _ (c .before .before .before .before .before .before .before .if1 .left) (c .before .before .before .before .before .before .is-marked .ensures) (c .before .before .before .before .before .if2 .left) (c .before .before .before .before .has-same-terms .ensures) (c .before .before .before .if3 .left) in
+    let c4 = c .before .before .before .before in
+    let c5 = c4 .before in
+    let c6 = c5 .before in
+    let c7 = c6 .before in
+    let c8 = c7 .before in
+    let left = up-to-ten _ _ _ _ (c8 .args .len) _ _ (c7 .if1 .left) (c6 .is-marked .ensures) (c5 .if2 .left)
+    (c4 .has-same-terms .ensures) (c .before .before .before .if3 .left) in
     rw (left, eq-eqb _ _ (c .before .if4 .taken), lt-ltb _ _ (c .if5 .taken))
 
 returns-5 : tie.Need-returns-5
 returns-5 c =
-    let left = up-to-ten _ _ _ _ (c .before .before .before .before .before .before .before .before .args .len) _ _ (c .before .before .before .before .before .before .before .if1 .left) (c .before .before .before .before .before .before .is-marked .ensures) (c .before .before .before .before .before .if2 .left) (c .before .before .before .before .has-same-terms .ensures) (c .before .before .before .if3 .left) in
+    let c4 = c .before .before .before .before in
+    let c5 = c4 .before in
+    let c6 = c5 .before in
+    let c7 = c6 .before in
+    let c8 = c7 .before in
+    let left = up-to-ten _ _ _ _ (c8 .args .len) _ _ (c7 .if1 .left) (c6 .is-marked .ensures) (c5 .if2 .left)
+    (c4 .has-same-terms .ensures) (c .before .before .before .if3 .left) in
     rw (left, eq-eqb _ _ (c .before .if4 .taken), le-ltb _ _ (c .if5 .left))
 
 returns-6 : tie.Need-returns-6
 returns-6 c =
-    let left = up-to-ten _ _ _ _ (c .before .before .before .before .before .before .before .args .len) _ _ (c .before .before .before .before .before .before .if1 .left) (c .before .before .before .before .before .is-marked .ensures) (c .before .before .before .before .if2 .left) (c .before .before .before .has-same-terms .ensures) (c .before .before .if3 .left) in
+    let c4 = c .before .before .before .before in
+    let c5 = c4 .before in
+    let c6 = c5 .before in
+    let c7 = c6 .before in
+    let left = up-to-ten _ _ _ _ (c7 .args .len) _ _ (c6 .if1 .left) (c5 .is-marked .ensures) (c4 .if2 .left)
+    (c .before .before .before .has-same-terms .ensures) (c .before .before .if3 .left) in
     rw (left, ne-eqb _ _ (c .if4 .left))
 
 pub terms-refusal-spec : {M : Type 1} → statement M

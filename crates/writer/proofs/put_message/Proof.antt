@@ -31,10 +31,13 @@ same-length c = search needs
 returns : tie.Need-returns
 unfolding carrying
 returns c =
-    let s = c .before .before .before .before .before .before .before .before .before .before .before .before in
+    let c6 = c .before .before .before .before .before .before in
+    let c9 = c6 .before .before .before in
+    let c12 = c9 .before .before .before in
+    let s = c12 in
     let a = s .args in
     message-put (a .slot .now) _ _ (a .at) (carrying (a .h) (a .payload .now)) _
-    (c .before .before .before .before .before .before .before .before .before .message-head .ensures) (c .before .before .before .before .before .before .write .ensures .1) (c .before .before .write2 .ensures .1) (s .pre .1)
+    (c9 .message-head .ensures) (c6 .write .ensures .1) (c .before .before .write2 .ensures .1) (s .pre .1)
 
 pub put-message-spec : {M : Type 1} → statement M
 put-message-spec =

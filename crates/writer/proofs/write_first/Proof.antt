@@ -45,9 +45,12 @@ write-requires c κs = search needs
 
 put-message-requires : tie.Need-put-message-requires
 put-message-requires c κs =
-    let a = c .before .before .before .before .before .before .before .before .before .before .before .before .args in
+    let c7 = c .before .before .before .before .before .before .before in
+    let c8 = c7 .before in
+    let c12 = c8 .before .before .before .before in
+    let a = c12 .args in
     let n = length (a .payload .now) in
-    let room : roomFor (a .slot .now) (34 + n) ≡ true = sym (c .before .before .before .before .before .before .before .before .has-room .ensures) ∙ not-false _ (c .before .before .before .before .before .before .before .if1 .left) in
+    let room : roomFor (a .slot .now) (34 + n) ≡ true = sym (c8 .has-room .ensures) ∙ not-false _ (c7 .if1 .left) in
     let fits : 34 + n ≤ length (a .slot .now) = room-slot (a .slot .now) (34 + n) room in
     let short : 34 + n ≤ 9000 = room-frame (a .slot .now) (34 + n) room in
     (omega arith, omega (arith, c .before .before .before .write .kept .0))
@@ -58,12 +61,17 @@ same-length-2 c = search needs
 returns-2 : tie.Need-returns-2
 unfolding carrying
 returns-2 c =
-    let a = c .before .before .before .before .before .before .before .before .before .before .before .before .before .before .before .args in
+    let c6 = c .before .before .before .before .before .before in
+    let c9 = c6 .before .before .before in
+    let c10 = c9 .before in
+    let c11 = c10 .before in
+    let c15 = c11 .before .before .before .before in
+    let a = c15 .args in
     let m = carrying (a .h) (a .payload .now) in
-    let room : roomFor (a .slot .now) (endOf 10 m) ≡ true = sym (c .before .before .before .before .before .before .before .before .before .before .before .has-room .ensures) ∙ not-false _ (c .before .before .before .before .before .before .before .before .before .before .if1 .left) in (
+    let room : roomFor (a .slot .now) (endOf 10 m) ≡ true = sym (c11 .has-room .ensures) ∙ not-false _ (c10 .if1 .left) in (
       sym room,
       first-put (a .slot .now) _ _ (a .to) (a .from) (a .number .0) m _ room
-          (c .before .before .before .before .before .before .before .before .before .frame-head .ensures) (c .before .before .before .before .before .before .write .ensures .1) (c .before .before .put-message .ensures),
+          (c9 .frame-head .ensures) (c6 .write .ensures .1) (c .before .before .put-message .ensures),
     )
 
 pub write-first-spec : {M : Type 1} → statement M

@@ -43,10 +43,12 @@ same-length c = search needs
 returns-2 : tie.Need-returns-2
 unfolding carrying
 returns-2 c =
-    let a = c .before .before .before .before .before .before .before .args in
+    let c7 = c .before .before .before .before .before .before .before in
+    let a = c7 .args in
     let m = carrying (a .h) (a .payload .now) in
     let room : roomFor (a .slot .now) (endOf (nextHeader (a .used)) m) ≡ false =
-    sym (rw (c .before .before .before .header-behind .ensures .0) at (c .before .has-room .ensures)) ∙ not-true _ (c .if2 .taken) in
+    sym (rw (c .before .before .before .header-behind .ensures .0) at (c .before .has-room .ensures)) ∙ not-true _ (c .if2 .taken)
+    in
     (sym room, next-refused (a .slot .now) (a .used) (a .last) m room)
 
 set-follows-requires : tie.Need-set-follows-requires
@@ -60,7 +62,9 @@ array-share-prefix-zeros c = search needs
 
 slice-aggregate-write : tie.Need-slice-aggregate-write
 slice-aggregate-write c =
-    let k = c .before .before .before .before .before .before .before .before .before .header-behind .result - c .before .before .before .before .before .before .before .before .before .before .before .before .before .args .used in
+    let c9 = c .before .before .before .before .before .before .before .before .before in
+    let c13 = c9 .before .before .before .before in
+    let k = c9 .header-behind .result - c13 .args .used in
     sym (ap length {y = replicate k 0} (zeros-front 10 k (omega arith)) ∙ length-replicate k 0)
 
 write-requires : tie.Need-write-requires
@@ -68,12 +72,17 @@ write-requires c κs = search needs
 
 put-message-requires : tie.Need-put-message-requires
 put-message-requires c κs =
-    let a = c .before .before .before .before .before .before .before .before .before .before .before .before .before .before .before .before .before .args in
-    let size = c .before .before .before .before .before .before .before .before .before .before .before .before .before .header-behind .result + 24 + length (a .payload .now) in
-    let room : roomFor (a .slot .now) size ≡ true = sym (c .before .before .before .before .before .before .before .before .before .before .before .has-room .ensures) ∙ not-false _ (c .before .before .before .before .before .before .before .before .before .before .if2 .left) in
+    let c8 = c .before .before .before .before .before .before .before .before in
+    let c10 = c8 .before .before in
+    let c11 = c10 .before in
+    let c13 = c11 .before .before in
+    let c17 = c13 .before .before .before .before in
+    let a = c17 .args in
+    let size = c13 .header-behind .result + 24 + length (a .payload .now) in
+    let room : roomFor (a .slot .now) size ≡ true = sym (c11 .has-room .ensures) ∙ not-false _ (c10 .if2 .left) in
     let fits : size ≤ length (a .slot .now) = room-slot (a .slot .now) size room in
     let short : size ≤ 9000 = room-frame (a .slot .now) size room in
-    (omega arith, omega (arith, c .before .before .before .write .kept .0, c .before .before .before .before .before .before .before .before .set-follows .kept .0))
+    (omega arith, omega (arith, c .before .before .before .write .kept .0, c8 .set-follows .kept .0))
 
 same-length-2 : tie.Need-same-length-2
 same-length-2 c = search needs
@@ -81,17 +90,23 @@ same-length-2 c = search needs
 returns-3 : tie.Need-returns-3
 unfolding carrying
 returns-3 c =
-    let a = c .before .before .before .before .before .before .before .before .before .before .before .before .before .before .before .before .before .before .before .before .args in
+    let c6 = c .before .before .before .before .before .before in
+    let c11 = c6 .before .before .before .before .before in
+    let c13 = c11 .before .before in
+    let c14 = c13 .before in
+    let c16 = c14 .before .before in
+    let c20 = c16 .before .before .before .before in
+    let a = c20 .args in
     let m = carrying (a .h) (a .payload .now) in
-    let next = c .before .before .before .before .before .before .before .before .before .before .before .before .before .before .before .before .header-behind .ensures .0 in
-    let k = c .before .before .before .before .before .before .before .before .before .before .before .before .before .before .before .before .header-behind .result - a .used in
+    let next = c16 .header-behind .ensures .0 in
+    let k = c16 .header-behind .result - a .used in
     let room : roomFor (a .slot .now) (endOf (nextHeader (a .used)) m) ≡ true =
-    sym (rw next at (c .before .before .before .before .before .before .before .before .before .before .before .before .before .before .has-room .ensures)) ∙ not-false _ (c .before .before .before .before .before .before .before .before .before .before .before .before .before .if2 .left) in
+    sym (rw next at (c14 .has-room .ensures)) ∙ not-false _ (c13 .if2 .left) in
     let gap : take k (replicate 10 0) ≡ gapAt (a .used) =
     zeros-front 10 k (omega arith) ∙ ap (λ (n : ℕ). replicate (n - a .used) 0) next in (
       sym room,
       next-put (a .slot .now) _ _ _ (a .used) (a .last) m _ room gap
-          (c .before .before .before .before .before .before .before .before .before .before .before .set-follows .ensures) (c .before .before .before .before .before .before .write .ensures .1) (rw next at (c .before .before .put-message .ensures)),
+          (c11 .set-follows .ensures) (c6 .write .ensures .1) (rw next at (c .before .before .put-message .ensures)),
     )
 
 pub write-next-spec : {M : Type 1} → statement M

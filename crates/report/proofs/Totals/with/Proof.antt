@@ -39,7 +39,14 @@ enum-told-3 c = search needs
 
 returns : tie.Need-returns
 returns c =
-    rw (c .before .before .before .before .before .before .before .answer .given .1, c .before .before .before .before .wrapping-add-u64 .ensures, c .before .before .wrapping-add-u642 .ensures, c .wrapping-add-u643 .ensures)
+    let c4 = c .before .before .before .before in
+    let c7 = c4 .before .before .before in
+    rw (
+      c7 .answer .given .1,
+      c4 .wrapping-add-u64 .ensures,
+      c .before .before .wrapping-add-u642 .ensures,
+      c .wrapping-add-u643 .ensures,
+    )
 
 returns-2 : tie.Need-returns-2
 returns-2 c = search needs

@@ -40,7 +40,8 @@ loop-less c = omega arith
 
 loop-again : tie.Need-loop-again Inv-loop μ-loop
 loop-again c =
-    one-more 64 _ _ _ (c .before .before .before .loop .inv) (c .before .before .loop-test .taken) (c .before .is-acknowledged .ensures)
+    one-more 64 _ _ _ (c .before .before .before .loop .inv) (c .before .before .loop-test .taken)
+    (c .before .is-acknowledged .ensures)
     (⊎-elim (λ t. t .2 ∙ t .1 .ensures ∙ sym (rw (t .0 .taken))) (λ l. l .1 ∙ sym (rw (l .0 .left))) (c .if1 .came))
 
 returns : tie.Need-returns Inv-loop μ-loop
