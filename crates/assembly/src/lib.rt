@@ -1,5 +1,6 @@
 // Building frames: opening a transaction, adding a message, sealing. The card goes in by value and comes back; the slot buffer is
-// lent, and only adding a message writes to it, inside the slot of the frame being built.
+// lent, and only adding a message writes to it, inside the slot of the frame being built. Assumes nothing of card, slots and
+// data. It promises what card/specs/Card.antt says, and every byte of the slots.
 use card::Card;
 use card::Sealed;
 use card::Stepped;

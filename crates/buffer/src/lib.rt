@@ -1,4 +1,5 @@
 // A lent buffer as a whole: filled with one byte, and its digest (FNV-1a, 64 bits), by which two buffers are compared in a line.
+// Assumes nothing. It promises specs/Digest.antt.
 ghost use mathlib.Core.Path.{_≡_};
 ghost use Prim.Native.Nat.{_*_, _%_, _^_};
 ghost use lib.ListN.{length, replicate};

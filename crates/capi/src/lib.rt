@@ -1,5 +1,6 @@
-// What a C program is offered: reading a frame's layout and asking a refusal's class. Each call answers one number, over any
-// bytes; a slice is a pointer and then a length. The declarations are in include/logwhisker.h.
+// What a C program is offered: reading a frame's layout and asking a refusal's class. Assumes of a caller that a slice's pointer
+// and length are right (include/logwhisker.h). It promises one number a call, over any bytes, as specs/Numbers.antt and the
+// reader's definitions say.
 ghost use mathlib.Core.Path.{_≡_};
 ghost use Rattle.refusal.specs.Class.{classOf, classNumber};
 ghost use Rattle.wire.specs.Reading.{destination, source, number, ackStart, ackCount, flags};

@@ -1,5 +1,6 @@
-// The second pass over a frame's messages, which were all judged before: the data of each is written, and straight after it the
-// completion where one is due. Any bytes are taken; a write that does not fit the memory is none.
+// The second pass over a frame's messages, judged before: the data of each is written, and straight after it the completion where
+// one is due. Assumes nothing: a write that does not fit the memory is none. It promises every byte of the memory
+// (specs/Depositing.antt).
 use marks::word64;
 use reader::Found;
 use wire::MessageHeader;

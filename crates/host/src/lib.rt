@@ -1,5 +1,6 @@
 // The charging host's end of a pair: what it knows and answers, how it is opened, and the acknowledgement that an answer calls
-// for. What receiving a frame comes to is defined here (specs/Host.antt); the crate reception does it.
+// for. Assumes nothing. It promises specs/Host.antt, where receiving a frame is defined too, which the crate reception does;
+// specs/Reachable.antt is kept by all of it.
 use seq::FrameNo;
 use seq::TransNo;
 use transactions::Open;

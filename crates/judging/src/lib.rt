@@ -1,6 +1,6 @@
-// The first pass over a frame's messages: each is judged against what those before it leave, and nothing is written. Any bytes
-// get an answer: judge_all judges any frame; judge_closing finds, at less cost, those that leave the table of open transactions
-// as it is.
+// The first pass over a frame's messages: each is judged against what those before it leave, and nothing is written. Assumes
+// nothing: any bytes and any table get an answer. It promises specs/Judging.antt: of judge_all for any frame, of judge_closing,
+// at less cost, for those that leave the table of open transactions as it is.
 use marks::word64;
 use reader::Found;
 use seq::TransNo;

@@ -1,5 +1,5 @@
-// Writing bytes into a memory that the caller lends: all of them where they lie inside it, else none. Assumes nothing. It promises
-// the whole memory as it is then (specs/Octets.antt).
+// Writing bytes into a memory that the caller lends: all of them where they lie inside it, else none. Assumes nothing. It
+// promises the whole memory as it is then (specs/Octets.antt).
 ghost use mathlib.Core.Path.{_≡_};
 ghost use Prim.Native.Nat.{_≤_};
 ghost use lib.ListN.{length, set};

@@ -1,4 +1,5 @@
-// The text that tells a host's pair: its numbers, its marks, and each open transaction, the nearest to the lowest first.
+// The text that tells a host's pair: its numbers, its marks, and each open transaction, the nearest to the lowest first. Assumes
+// nothing. It promises specs/PairText.antt.
 use host::Pair;
 use seq::TransNo;
 use transactions::Open;

@@ -1,4 +1,5 @@
-// Reading a lent frame: its header, its messages one by one, and its layout as a whole. Any bytes get an answer.
+// Reading a lent frame: its header, its messages one by one, and its layout as a whole. Assumes nothing: any bytes get an answer.
+// It promises what specs/Layout.antt says, over the format of the crate wire.
 use seq::FrameNo;
 use seq::TransNo;
 use wire::FrameHeader;

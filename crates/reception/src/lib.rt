@@ -1,5 +1,6 @@
 // Receiving a frame: the pair and the frame go in with memory lent, and the answer comes back with the pair as it is then.
-// Nothing is written before the last message of a frame is judged.
+// Nothing is written before the last message is judged. Assumes nothing. It promises answer, pair and every byte of memory as
+// host/specs/Host.antt, receiveOf, says.
 use host::Answer;
 use host::Pair;
 use host::Refusal;

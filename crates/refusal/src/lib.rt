@@ -1,4 +1,5 @@
-// The numbers of refusals, and the class of a number. A refusal changes nothing.
+// The numbers of refusals, and the class of a number. Assumes nothing: any number has a class. It promises that of
+// specs/Class.antt.
 ghost use mathlib.Core.Path.{_≡_};
 ghost use Rattle.refusal.specs.Class.{classOf, classNumber};
 

@@ -1,4 +1,5 @@
-// What the replay says of one line: the host's answer to the frame that it spells, the answer's text, and the totals.
+// What the replay says of one line: the host's answer to the frame that it spells, the answer's text, and the totals. Assumes
+// nothing. It promises what specs/Report.antt says; proofs/Lines.antt shows it for the line's characters.
 use hexline::Line;
 use host::Answer;
 use host::Pair;

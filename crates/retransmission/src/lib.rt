@@ -1,5 +1,5 @@
 // What goes out, again and again until it is acknowledged: reading acknowledgements, showing a held frame, choosing what goes out
-// next. The card goes in by value and comes back; the slots are lent for reading, and a part of what is lent is handed out.
+// next. A part of what is lent is handed out. Assumes nothing of card and slots. It promises what card/specs/Card.antt says.
 use card::Card;
 use card::Stepped;
 use send_window::SendWindow;

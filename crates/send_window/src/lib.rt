@@ -1,5 +1,5 @@
-// The card's sealed frames as a window: which are released, which acknowledged, which held. Total over any state, also those
-// that no run reaches.
+// The card's sealed frames as a window: which are released, which acknowledged, which held. Assumes nothing of the state, which
+// may be one that no run reaches. It promises what specs/Window.antt says.
 use marks::word64;
 use seq::FrameNo;
 ghost use mathlib.Core.Path.{_≡_};

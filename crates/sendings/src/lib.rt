@@ -1,5 +1,5 @@
-// The card's transactions: opening one, adding a message to one, and which are finished. Total over any state, also those that
-// no run reaches.
+// The card's transactions: opening one, adding a message to one, and which are finished. Assumes nothing of the state, which may
+// be one that no run reaches. It promises what specs/Sendings.antt says.
 use marks::word32;
 use seq::FrameNo;
 use seq::TransNo;

@@ -1,5 +1,6 @@
-// Text put piece by piece into a lent buffer: words, numbers in decimal, words of marks and bytes in hexadecimal. Each function
-// answers the index behind what it put; a piece that does not fit is left out whole.
+// Text put piece by piece into a lent buffer: words, numbers in decimal, words of marks and bytes in hexadecimal. Assumes
+// nothing: a piece that does not fit is left out whole. It promises the index behind what was put and every byte
+// (specs/Pieces.antt).
 ghost use mathlib.Core.Path.{_≡_};
 ghost use mathlib.Core.List.{[], _∷_};
 ghost use Prim.Native.Nat.{_^_, _≤_, _<_};

@@ -1,5 +1,5 @@
-// What one message does to its transaction at the host: the verdict on its header, and the state that it leaves. Total over any
-// state, also those that no run reaches.
+// What one message does to its transaction at the host: the verdict on its header, and the state that it leaves. Assumes nothing
+// of the state, which may be one that no run reaches. It promises specs/Transactions.antt, verdictOf.
 use marks::word32;
 use seq::TransNo;
 use wire::MessageHeader;

@@ -1,5 +1,6 @@
 // Writing frames: an acknowledgement frame by value, and a frame with messages built inside a lent slot, one message a call.
-// A message that has no room is not written at all.
+// Assumes nothing: a message that has no room is not written at all. It promises every byte of the slot, as
+// wire/specs/Writing.antt says.
 use seq::FrameNo;
 use wire::MessageHeader;
 ghost use mathlib.Core.Path.{_≡_};
