@@ -483,37 +483,37 @@ def draw_lives():
 FLOORS = {
     "kit": ("libraries of the Rattle kit", "#ffffff", 560, 1140, 0, 0),
     "ground": ("ground: no knowledge of frames", GREY, 30, 720, 1, 1),
-    "format": ("format: defined once, in wire", BLUE, 200, 560, 2, 3),
-    "card": ("card", GREEN, 30, 362, 4, 6),
-    "host": ("host", AMBER, 404, 596, 4, 7),
-    "C": ("C: numbers, byte slices", TEAL, 642, 766, 4, 4),
-    "theorem": ("theorem", VIOLET, 30, 290, 8, 8),
-    "tests": ("tests", GREY, 334, 596, 8, 8),
-    "lines": ("lines: characters and text", ROSE, 812, 1140, 2, 8),
-    "programs": ("programs: input and output", TEAL, 812, 1140, 9, 9),
+    "format": ("format: defined once, in wire", BLUE, 200, 600, 2, 4),
+    "card": ("card", GREEN, 30, 362, 5, 7),
+    "host": ("host", AMBER, 404, 596, 5, 8),
+    "C": ("C: numbers, byte slices", TEAL, 642, 766, 5, 5),
+    "theorem": ("theorem", VIOLET, 30, 290, 9, 9),
+    "tests": ("tests", GREY, 334, 596, 9, 9),
+    "lines": ("lines: characters and text", ROSE, 812, 1140, 2, 9),
+    "programs": ("programs: input and output", TEAL, 812, 1140, 10, 10),
 }
 
 # Where a crate is drawn: its floor, its row from below, and the middle of its box.
 PLACES = {
     "bytes": ("kit", 0, 640), "io": ("kit", 0, 860), "libc": ("kit", 0, 960), "os": ("kit", 0, 1060),
     "marks": ("ground", 1, 110), "seq": ("ground", 1, 270), "refusal": ("ground", 1, 460), "octets": ("ground", 1, 640),
-    "wire": ("format", 2, 380), "writer": ("format", 3, 290), "reader": ("format", 3, 470),
-    "send_window": ("card", 4, 110), "sendings": ("card", 4, 270), "card": ("card", 5, 190),
-    "assembly": ("card", 6, 100), "retransmission": ("card", 6, 270),
-    "transactions": ("host", 4, 490), "host": ("host", 5, 450), "judging": ("host", 5, 548),
-    "depositing": ("host", 6, 470), "reception": ("host", 7, 500),
-    "capi": ("C", 4, 704),
-    "delivery": ("theorem", 8, 165),
-    "edges": ("tests", 8, 400), "host_run": ("tests", 8, 520),
+    "wire": ("format", 2, 380), "writer": ("format", 3, 290), "reader": ("format", 3, 470), "layout": ("format", 4, 520),
+    "send_window": ("card", 5, 110), "sendings": ("card", 5, 270), "card": ("card", 6, 130), "finishing": ("card", 6, 280),
+    "assembly": ("card", 7, 100), "retransmission": ("card", 7, 270),
+    "transactions": ("host", 5, 490), "host": ("host", 6, 450), "judging": ("host", 6, 548),
+    "depositing": ("host", 7, 470), "reception": ("host", 8, 500),
+    "capi": ("C", 5, 704),
+    "delivery": ("theorem", 9, 165),
+    "edges": ("tests", 9, 400), "host_run": ("tests", 9, 520),
     "hexline": ("lines", 2, 870), "decimal": ("lines", 2, 975), "buffer": ("lines", 2, 1080),
     "hexfeed": ("lines", 3, 860), "answer_line": ("lines", 3, 975), "text": ("lines", 3, 1080),
-    "words": ("lines", 4, 860), "script": ("lines", 5, 860),
-    "report": ("lines", 8, 880), "pair_text": ("lines", 8, 1050),
-    "replay": ("programs", 9, 880), "calls": ("programs", 9, 1050),
+    "words": ("lines", 4, 860), "kinds": ("lines", 5, 860), "script": ("lines", 6, 860),
+    "report": ("lines", 9, 880), "pair_text": ("lines", 9, 1050),
+    "replay": ("programs", 10, 880), "calls": ("programs", 10, 1050),
 }
 
 TOP, PITCH, BOX = 60, 86, 32
-ROWS = 10
+ROWS = 11
 
 
 def read_crates():
@@ -623,7 +623,7 @@ INKS = {
 
 
 def draw_crates(sees):
-    p = Picture("crates.svg", 1170, 912, "The crates by floors, and what each may see")
+    p = Picture("crates.svg", 1170, 998, "The crates by floors, and what each may see")
     names = sorted(set(sees) | {b for seen in sees.values() for b in seen})
     refuse_crowding(names)
     p.text(30, 28, "An arrow goes from a crate to one that it may see. Where another crate that it sees leads there, "

@@ -3,12 +3,12 @@
 use card::Card;
 use host::Answer;
 use host::Pair;
+use kinds::Kind;
+use layout::Layout;
 use libc::STDIN_FILENO;
 use libc::STDOUT_FILENO;
-use reader::Layout;
 use refusal::Class;
 use script::Call;
-use script::Kind;
 use seq::FrameNo;
 use seq::TransNo;
 ghost use mathlib.Core.Path.{_≡_};
@@ -302,7 +302,7 @@ fn call_receive(ends: Ends, frame: &[u8], memory: &mut [u8], out: &mut [u8], at:
 // ---- questions
 
 fn call_layout(frame: &[u8], out: &mut [u8], at: usize) -> usize {
-    let layout = reader::layout_of(frame);
+    let layout = layout::layout_of(frame);
     match layout {
         Layout::Refused(n) => put_numbered(out, at, b'R', n as u64),
         Layout::Counts(messages, bytes) => {

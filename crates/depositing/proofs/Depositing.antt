@@ -14,8 +14,8 @@ use Rattle.wire.specs.declared.MessageHeader.{MessageHeader}
 use Rattle.wire.specs.Format.{Message, carrying, nextHeader, frameMost}
 use Rattle.wire.specs.Reading.{dataEnd, messageAt}
 use Rattle.reader.specs.declared.Found.the-variants.{PastEnd}
-use Rattle.reader.specs.Layout.{headAt, foundAt, dataAt}
-use Rattle.reader.proofs.Reading.{IsWhole, is-past, data-whole}
+use Rattle.reader.specs.Finding.{headAt, foundAt, dataAt}
+use Rattle.reader.proofs.Finding.{IsWhole, is-past, data-whole}
 use Rattle.host.specs.Host.{effect}
 use Rattle.host.proofs.Receiving.{length-effect}
 use Rattle.depositing.specs.Depositing.{dueAt, writtenFrom, writtenOf}

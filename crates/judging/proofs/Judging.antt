@@ -14,8 +14,8 @@ use Rattle.wire.specs.declared.MessageHeader.{MessageHeader}
 use Rattle.wire.specs.Format.{headOf, nextHeader, frameMost}
 use Rattle.wire.specs.Reading.{follows, dataEnd, messageAt}
 use Rattle.reader.specs.declared.Found.the-variants.{PastEnd}
-use Rattle.reader.specs.Layout.{headAt, foundAt}
-use Rattle.reader.proofs.Reading.{IsWhole, is-past}
+use Rattle.reader.specs.Finding.{headAt, foundAt}
+use Rattle.reader.proofs.Finding.{IsWhole, is-past}
 use Rattle.transactions.specs.declared.Open.{Open}
 use Rattle.transactions.specs.declared.Verdict.{Verdict}
 use Rattle.transactions.specs.Transactions.{free, Transactions, verdictOf, verdict, after}

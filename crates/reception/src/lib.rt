@@ -67,7 +67,7 @@ fn again(pair: Pair, number: FrameNo) -> Stepped
 fn refuse(pair: Pair, f: &[u8], stop: u8, place: u32) -> Stepped
     ensures { λ r. ⌜ r ≡ refusedWith pair (now (f .entry)) stop place ⌝ }
 {
-    let cut = reader::refusal_of(f, pair.own, pair.peer);
+    let cut = layout::refusal_of(f, pair.own, pair.peer);
     if cut != 0 {
         return refusing(pair, cut, 0);
     }
@@ -128,7 +128,7 @@ fn take_in(pair: Pair, f: &[u8], memory: &mut [u8], number: FrameNo) -> Stepped
 fn answer_old(pair: Pair, f: &[u8], number: FrameNo, d: u16) -> Stepped
     ensures { λ r. ⌜ AnswersOld pair (now (f .entry)) (number .0) d r ⌝ }
 {
-    let cut = reader::refusal_of(f, pair.own, pair.peer);
+    let cut = layout::refusal_of(f, pair.own, pair.peer);
     if cut != 0 {
         return refusing(pair, cut, 0);
     }
@@ -146,7 +146,7 @@ pub fn receive(pair: Pair, f: &[u8], memory: &mut [u8]) -> Stepped
     ensures { λ r. ⌜ r ≡ steppedOf (receiveOf pair (now (f .entry)) (now (memory .entry))) ⌝ }
     ensures { λ _. ⌜ now (memory .exit) ≡ receiveOf pair (now (f .entry)) (now (memory .entry)) .memory ⌝ }
 {
-    let stop = reader::heading_refusal(f, pair.own, pair.peer);
+    let stop = layout::heading_refusal(f, pair.own, pair.peer);
     if stop != 0 {
         return refusing(pair, stop, 0);
     }

@@ -32,7 +32,7 @@ fn acknowledge(card: Card, start: FrameNo, count: u8) -> Stepped
     let base = window.base;
     let mut next = card;
     next.window = window;
-    next.sendings = card.sendings.finish(base, window.next);
+    next.sendings = finishing::finish(card.sendings, base, window.next);
     Stepped {
         card: next,
         refusal: 0,
@@ -43,7 +43,7 @@ fn acknowledge(card: Card, start: FrameNo, count: u8) -> Stepped
 pub fn read_acknowledgements(card: Card, f: &[u8]) -> Stepped
     ensures { λ r. ⌜ r ≡ readAcks card (now (f .entry)) ⌝ }
 {
-    let refusal = reader::refusal_of(f, card.own, card.peer);
+    let refusal = layout::refusal_of(f, card.own, card.peer);
     if refusal != 0 {
         return Stepped { card, refusal };
     }

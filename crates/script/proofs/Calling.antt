@@ -11,8 +11,8 @@ use borrow.Author.Tests.{lt-ltb, le-ltb}
 use lib.Dec.{ltb}
 use lib.ListN.{length, take, drop, getD, set, length-set, length-take, length-drop, drop-of-length-le}
 use lib.Seq.{drop-cons, drop-drop, getD-take, take-all}
-use Rattle.script.specs.declared.Kind.{Kind}
-use Rattle.script.specs.declared.Kind.the-variants.{
+use Rattle.kinds.specs.declared.Kind.{Kind}
+use Rattle.kinds.specs.declared.Kind.the-variants.{
   Card,
   Host,
   Open,
@@ -32,22 +32,10 @@ use Rattle.script.specs.declared.Kind.the-variants.{
 use Rattle.words.specs.declared.Number.{Number}
 use Rattle.words.specs.declared.Bytes.{Bytes}
 use Rattle.script.specs.declared.Call.{Call}
-use Rattle.script.specs.declared.Form.{Form}
+use Rattle.kinds.specs.declared.Form.{Form}
 use Rattle.words.specs.Words.{wordLength, wordEnd, numberIn, spelled, bytesOf, frameOf}
-use Rattle.script.specs.Calls.{
-  kindOf,
-  formOf,
-  ReadOff,
-  noneRead,
-  readNumbers,
-  noCall,
-  callRest,
-  frameRest,
-  kindIn,
-  numbersIn,
-  callOf,
-  callFrame,
-}
+use Rattle.kinds.specs.Kinds.{kindOf, formOf}
+use Rattle.script.specs.Calls.{ReadOff, noneRead, readNumbers, noCall, callRest, frameRest, kindIn, numbersIn, callOf, callFrame}
 
 -- ---- numbers: what is left to read
 

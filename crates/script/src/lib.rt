@@ -1,15 +1,12 @@
 // The call that a line of a script asks for: its name, its numbers, each within its bound, and its bytes. Assumes nothing: a line
 // of no form is a call of its own kind, Other. It promises what specs/Calls.antt says, and every byte of the frame lent.
+use kinds::Kind;
 ghost use mathlib.Core.Path.{_≡_};
 ghost use mathlib.Core.Bool.{true, false};
 ghost use mathlib.Core.List.{[], _∷_};
 ghost use Prim.Native.Nat.{_≤_};
 ghost use lib.ListN.{length, take, drop};
 ghost use Rattle.script.specs.Calls.{
-  questionKind,
-  frameKind,
-  kindOf,
-  formOf,
   readNumbers,
   noCall,
   callRest,
@@ -20,32 +17,6 @@ ghost use Rattle.script.specs.Calls.{
 
 // Characters of a line at most.
 const LINE_MOST: usize = 200000;
-
-// The calls by name. Other is a line of no form.
-pub enum Kind {
-    Card,
-    Host,
-    Open,
-    Add,
-    Seal,
-    Read,
-    Show,
-    Choose,
-    Receive,
-    Layout,
-    Class,
-    Slots,
-    Memory,
-    State,
-    Other,
-}
-
-// The words behind a name: so many numbers, each up to its bound, and whether bytes follow.
-pub struct Form {
-    pub most: [u32; 5],
-    pub count: usize,
-    pub bytes: bool,
-}
 
 // A call with its numbers and how many bytes it brings.
 pub struct Call {
@@ -59,98 +30,6 @@ struct Numbers {
     pub values: [u32; 5],
     pub at: usize,
     pub good: bool,
-}
-
-// The last of the names: questions.
-fn question_kind(word: &[u8]) -> Kind
-    ensures { λ r. ⌜ r ≡ questionKind (now (word .entry)) ⌝ }
-{
-    if words::is_same(word, b"class") {
-        return Kind::Class;
-    }
-    if words::is_same(word, b"slots") {
-        return Kind::Slots;
-    }
-    if words::is_same(word, b"memory") {
-        return Kind::Memory;
-    }
-    if words::is_same(word, b"state") {
-        return Kind::State;
-    }
-    Kind::Other
-}
-
-// The names of calls that bring a frame or ask for one, and those behind them.
-fn frame_kind(word: &[u8]) -> Kind
-    ensures { λ r. ⌜ r ≡ frameKind (now (word .entry)) ⌝ }
-{
-    if words::is_same(word, b"read") {
-        return Kind::Read;
-    }
-    if words::is_same(word, b"show") {
-        return Kind::Show;
-    }
-    if words::is_same(word, b"choose") {
-        return Kind::Choose;
-    }
-    if words::is_same(word, b"receive") {
-        return Kind::Receive;
-    }
-    if words::is_same(word, b"layout") {
-        return Kind::Layout;
-    }
-    question_kind(word)
-}
-
-// The call of a name.
-pub fn kind_of(word: &[u8]) -> Kind
-    ensures { λ r. ⌜ r ≡ kindOf (now (word .entry)) ⌝ }
-{
-    if words::is_same(word, b"card") {
-        return Kind::Card;
-    }
-    if words::is_same(word, b"host") {
-        return Kind::Host;
-    }
-    if words::is_same(word, b"open") {
-        return Kind::Open;
-    }
-    if words::is_same(word, b"add") {
-        return Kind::Add;
-    }
-    if words::is_same(word, b"seal") {
-        return Kind::Seal;
-    }
-    frame_kind(word)
-}
-
-fn form_with(count: usize, most: [u32; 5], bytes: bool) -> Form
-    ensures { λ r. ⌜ r ≡ record { most = most; count = count; bytes = bytes } ⌝ }
-{
-    Form { most, count, bytes }
-}
-
-// The words that a call takes.
-pub fn form_of(kind: Kind) -> Form
-    ensures { λ r. ⌜ r ≡ formOf kind ⌝ }
-{
-    match kind {
-        Kind::Card => form_with(5, [65535, 65535, 4294967295, 600000, 1], false),
-        Kind::Host => form_with(3, [65535, 65535, 1048576, 0, 0], false),
-        Kind::Open => form_with(3, [65535, 4294967295, 4294967295, 0, 0], false),
-        Kind::Add => form_with(2, [4294967295, 4294967295, 0, 0, 0], true),
-        Kind::Show => form_with(1, [65535, 0, 0, 0, 0], false),
-        Kind::Class => form_with(1, [4294967295, 0, 0, 0, 0], false),
-        Kind::Read => form_with(0, [0, 0, 0, 0, 0], true),
-        Kind::Choose => form_with(0, [0, 0, 0, 0, 0], true),
-        Kind::Receive => form_with(0, [0, 0, 0, 0, 0], true),
-        Kind::Layout => form_with(0, [0, 0, 0, 0, 0], true),
-        Kind::Seal => form_with(0, [0, 0, 0, 0, 0], false),
-        Kind::Slots => form_with(0, [0, 0, 0, 0, 0], false),
-        Kind::Memory => form_with(0, [0, 0, 0, 0, 0], false),
-        Kind::State => form_with(0, [0, 0, 0, 0, 0], false),
-        Kind::Other => form_with(0, [0, 0, 0, 0, 0], false),
-    }
 }
 
 // No numbers.
@@ -249,8 +128,8 @@ pub fn call_of(line: &[u8], frame: &mut [u8]) -> Call
         return no_call();
     }
     let end = words::word_end(line, 0);
-    let kind = kind_of(&line[..end]);
-    let form = form_of(kind);
+    let kind = kinds::kind_of(&line[..end]);
+    let form = kinds::form_of(kind);
     let most = form.most;
     let n = read_numbers(line, end, form.count, most);
     if !n.good {

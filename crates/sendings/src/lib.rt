@@ -1,12 +1,10 @@
-// The card's transactions: opening one, adding a message to one, and which are finished. Assumes nothing of the state, which may
-// be one that no run reaches. It promises what specs/Sendings.antt says.
-use marks::word32;
+// The card's transactions: opening one, and adding a message to one. Assumes nothing of the state, which may be one that no run
+// reaches. It promises what specs/Sendings.antt says, where finishing is defined too, which the crate finishing does.
 use seq::FrameNo;
 use seq::TransNo;
 ghost use mathlib.Core.Path.{_≡_};
 ghost use mathlib.Core.Bool.{Bool, true, false};
 ghost use Rattle.wire.specs.Format.{needed};
-ghost use Rattle.marks.specs.Marks.{marksOf};
 ghost use Rattle.sendings.specs.Sendings.{
   noSendings,
   sendingAt,
@@ -14,10 +12,6 @@ ghost use Rattle.sendings.specs.Sendings.{
   opening,
   takes,
   adding,
-  sent,
-  finishedBy,
-  passing,
-  finishing,
 };
 
 // A transaction as the card sends it: its terms, how many of its messages are added, and the number of the frame that the latest
@@ -58,26 +52,13 @@ pub fn no_sendings() -> Sendings
 }
 
 // The messages that a transaction takes: one bare one for count 0.
-fn messages_of(count: u16) -> u16
+pub fn messages_of(count: u16) -> u16
     ensures { λ r. ⌜ r ≡ needed count ⌝ }
 {
     if count == 0 {
         return 1;
     }
     count
-}
-
-impl Sending {
-    // Whether all messages are added and lie in frames before base, where next is the frame being built.
-    fn is_sent(self, base: FrameNo, next: FrameNo) -> bool
-        ensures { λ r. ⌜ r ≡ sent self (base .0) (next .0) ⌝ }
-    {
-        if self.added != messages_of(self.count) {
-            return false;
-        }
-        let latest = self.latest;
-        next.distance(base) < latest.distance(base)
-    }
 }
 
 impl Sendings {
@@ -160,60 +141,5 @@ impl Sendings {
             finished: self.finished,
             table,
         }
-    }
-
-    // Whether the transaction lowest + i is finished once the frames before base are released.
-    fn is_finished(self, base: FrameNo, next: FrameNo, i: u32) -> bool
-        ensures { λ r. ⌜ r ≡ finishedBy self (base .0) (next .0) i ⌝ }
-    {
-        if word32::is_marked(self.finished, i) {
-            return true;
-        }
-        let lowest = self.lowest;
-        let end = self.next;
-        if end.distance(lowest) <= i {
-            return false;
-        }
-        self.table[((lowest.0 % 32 + i % 32) % 32) as usize]
-            .is_sent(base, next)
-    }
-
-    // Marks of the transactions finished then.
-    fn all_finished(self, base: FrameNo, next: FrameNo) -> u32
-        ensures { λ r. ⌜ r ≡ marksOf 32 (finishedBy self (base .0) (next .0)) ⌝ }
-    {
-        let mut finished: u32 = 0;
-        let mut i: u32 = 0;
-        while i < 32 {
-            if self.is_finished(base, next, i) {
-                finished = word32::with_mark(finished, i);
-            }
-            i += 1;
-        }
-        finished
-    }
-
-    // The window past consecutive finished transactions.
-    fn pass(self, finished: u32) -> Sendings
-        ensures { λ r. ⌜ r ≡ passing self finished ⌝ }
-    {
-        let run = word32::leading_ones(finished);
-        let next = self.next;
-        let lowest = self.lowest;
-        let table = self.table;
-        Sendings {
-            next,
-            lowest: lowest.advance(run),
-            finished: word32::shifted(finished, run),
-            table,
-        }
-    }
-
-    // The transactions once the frames before base are released; next is the frame being built.
-    pub fn finish(self, base: FrameNo, next: FrameNo) -> Sendings
-        ensures { λ r. ⌜ r ≡ finishing self (base .0) (next .0) ⌝ }
-    {
-        let finished = self.all_finished(base, next);
-        self.pass(finished)
     }
 }

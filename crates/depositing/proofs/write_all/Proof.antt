@@ -4,7 +4,7 @@ use mathlib.Core.Path.{sym, _∙_}
 use Prim.Native.Nat.{_-_}
 use native.Mathlib.Omega.{arith}
 use borrow.Author.Needs.{needs}
-use Rattle.reader.proofs.Reading.{is-whole}
+use Rattle.reader.proofs.Finding.{is-whole}
 use Rattle.depositing.proofs.Depositing.{
   written-long,
   carrying-is,

@@ -6,7 +6,7 @@ use native.Mathlib.Omega.{arith}
 use borrow.Author.Needs.{needs}
 use borrow.Author.Tests.{not-true, not-false}
 use lib.ListN.{length}
-use Rattle.reader.proofs.Reading.{is-whole}
+use Rattle.reader.proofs.Finding.{is-whole}
 use Rattle.judging.proofs.Judging.{
   judged-long,
   Judging,

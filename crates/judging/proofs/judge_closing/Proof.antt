@@ -6,7 +6,7 @@ use native.Mathlib.Omega.{arith}
 use borrow.Author.Needs.{needs}
 use borrow.Author.Tests.{not-true, not-false}
 use lib.ListN.{length, replicate}
-use Rattle.reader.proofs.Reading.{is-whole}
+use Rattle.reader.proofs.Finding.{is-whole}
 use Rattle.judging.proofs.Judging.{
   closing-long,
   Finding,

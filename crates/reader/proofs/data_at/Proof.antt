@@ -2,7 +2,7 @@
 -- Assumes nothing.
 use native.Mathlib.Nat.{add-sub-cancel-left}
 use native.Mathlib.Omega.{arith}
-use Rattle.reader.proofs.Reading.{data-past, data-whole}
+use Rattle.reader.proofs.Finding.{data-past, data-whole}
 use borrow.Author.Needs.{needs}
 use Rattle.reader.proofs.data_at.Statement.{statement}
 use Rattle.reader.proofs.data_at.Tie as tie

@@ -1,6 +1,6 @@
 -- `reader::frame_header`: each field as the definition reads it.
 -- Assumes nothing.
-use Rattle.reader.specs.Layout.{headerOf}
+use Rattle.reader.specs.Finding.{headerOf}
 use borrow.Author.Needs.{needs}
 use Rattle.reader.proofs.frame_header.Statement.{statement}
 use Rattle.reader.proofs.frame_header.Tie as tie

@@ -1,6 +1,6 @@
 -- `reader::header_in`: each field as the definition reads it.
 -- Assumes nothing.
-use Rattle.reader.specs.Layout.{headAt}
+use Rattle.reader.specs.Finding.{headAt}
 use borrow.Author.Needs.{needs}
 use Rattle.reader.proofs.header_in.Statement.{statement}
 use Rattle.reader.proofs.header_in.Tie as tie

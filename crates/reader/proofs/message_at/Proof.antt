@@ -5,7 +5,7 @@ use native.Mathlib.Omega.{arith}
 use Rattle.octets.proofs.Octets.{field-1}
 use Rattle.wire.specs.Reading.{follows, dataEnd}
 use Rattle.wire.proofs.Format.{header-after}
-use Rattle.reader.proofs.Reading.{found-past, found-whole}
+use Rattle.reader.proofs.Finding.{found-past, found-whole}
 use borrow.Author.Needs.{needs}
 use Rattle.reader.proofs.message_at.Statement.{statement}
 use Rattle.reader.proofs.message_at.Tie as tie

@@ -12,7 +12,7 @@ use Rattle.reception.proofs.answer_old.Reads as reads
 use Rattle.reception.proofs.answer_old.Lts as lts
 use Rattle.reception.proofs.again.Reads as again-reads
 use Rattle.reception.proofs.refusing.Reads as refusing-reads
-use Rattle.reader.proofs.refusal_of.Reads as refusal-of-reads
+use Rattle.layout.proofs.refusal_of.Reads as refusal-of-reads
 
 refusal-of-requires : tie.Need-refusal-of-requires
 refusal-of-requires c κs = search needs

@@ -9,8 +9,8 @@ use Rattle.seq.specs.Ring.{distance, frameSpace}
 use Rattle.wire.specs.declared.FrameHeader.{FrameHeader}
 use Rattle.wire.specs.Reading.{addressed}
 use Rattle.wire.proofs.Reading.{read-none}
-use Rattle.reader.specs.Layout.{headerOf}
-use Rattle.reader.proofs.Reading.{Framed, heading-stops, heading-stands}
+use Rattle.reader.specs.Finding.{headerOf}
+use Rattle.layout.proofs.Reading.{Framed, heading-stops, heading-stands}
 use Rattle.host.specs.declared.Pair.{Pair}
 use Rattle.host.specs.Host.{Received, steppedOf}
 use Rattle.reception.specs.Reception.{Awaited}
@@ -27,7 +27,7 @@ use Rattle.reception.proofs.take_closing.Reads as take-closing-reads
 use Rattle.reception.proofs.take_in.Reads as take-in-reads
 use Rattle.marks.proofs.word64.is_marked.Reads as is-marked-reads
 use Rattle.reader.proofs.frame_header.Reads as frame-header-reads
-use Rattle.reader.proofs.heading_refusal.Reads as heading-refusal-reads
+use Rattle.layout.proofs.heading_refusal.Reads as heading-refusal-reads
 use Rattle.seq.proofs.FrameNo.distance.Reads as distance-reads
 
 -- a frame with messages that passed the checks of its heading

@@ -9,7 +9,7 @@ use Rattle.reception.proofs.refuse.Tie as tie
 use Rattle.reception.proofs.refuse.Reads as reads
 use Rattle.reception.proofs.refuse.Lts as lts
 use Rattle.reception.proofs.refusing.Reads as refusing-reads
-use Rattle.reader.proofs.refusal_of.Reads as refusal-of-reads
+use Rattle.layout.proofs.refusal_of.Reads as refusal-of-reads
 
 refusal-of-requires : tie.Need-refusal-of-requires
 refusal-of-requires c κs = search needs

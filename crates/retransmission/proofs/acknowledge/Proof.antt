@@ -7,7 +7,7 @@ use Rattle.retransmission.proofs.acknowledge.Tie as tie
 use Rattle.retransmission.proofs.acknowledge.Reads as reads
 use Rattle.retransmission.proofs.acknowledge.Lts as lts
 use Rattle.send_window.proofs.SendWindow.acknowledge.Reads as acknowledge-reads
-use Rattle.sendings.proofs.Sendings.finish.Reads as finish-reads
+use Rattle.finishing.proofs.finish.Reads as finish-reads
 
 acknowledge-requires : tie.Need-acknowledge-requires
 acknowledge-requires c κs = search needs

@@ -3,7 +3,7 @@
 use mathlib.Core.Path.{_≡_}
 use borrow.Author.Tests.{eq-eqb, ne-eqb}
 use Rattle.wire.specs.Reading.{addressed, readFrame, refusalOf}
-use Rattle.reader.specs.Layout.{headerOf}
+use Rattle.reader.specs.Finding.{headerOf}
 use Rattle.card.specs.Card.{readAcks}
 use borrow.Author.Needs.{needs}
 use Rattle.retransmission.proofs.read_acknowledgements.Statement.{statement}
@@ -12,7 +12,7 @@ use Rattle.retransmission.proofs.read_acknowledgements.Reads as reads
 use Rattle.retransmission.proofs.read_acknowledgements.Lts as lts
 use Rattle.retransmission.proofs.acknowledge.Reads as acknowledge-reads
 use Rattle.reader.proofs.frame_header.Reads as frame-header-reads
-use Rattle.reader.proofs.refusal_of.Reads as refusal-of-reads
+use Rattle.layout.proofs.refusal_of.Reads as refusal-of-reads
 
 refusal-of-requires : tie.Need-refusal-of-requires
 refusal-of-requires c κs = search needs

@@ -11,8 +11,8 @@ use Rattle.script.proofs.call_of.Statement.{statement}
 use Rattle.script.proofs.call_of.Tie as tie
 use Rattle.script.proofs.call_of.Reads as reads
 use Rattle.script.proofs.call_of.Lts as lts
-use Rattle.script.proofs.form_of.Reads as form-of-reads
-use Rattle.script.proofs.kind_of.Reads as kind-of-reads
+use Rattle.kinds.proofs.form_of.Reads as form-of-reads
+use Rattle.kinds.proofs.kind_of.Reads as kind-of-reads
 use Rattle.script.proofs.no_call.Reads as no-call-reads
 use Rattle.script.proofs.read_numbers.Reads as read-numbers-reads
 use Rattle.script.proofs.rest.Reads as rest-reads

@@ -1,0 +1,40 @@
+-- `finishing::is_sent`: all are added, and the latest lies beyond the frames not released.
+-- Assumes nothing.
+use borrow.Author.Tests.{eq-eqb, ne-eqb}
+use Rattle.sendings.specs.Sendings.{sent}
+use borrow.Author.Needs.{needs}
+use Rattle.finishing.proofs.is_sent.Statement.{statement}
+use Rattle.finishing.proofs.is_sent.Tie as tie
+use Rattle.finishing.proofs.is_sent.Reads as reads
+use Rattle.finishing.proofs.is_sent.Lts as lts
+use Rattle.sendings.proofs.messages_of.Reads as messages-of-reads
+use Rattle.seq.proofs.FrameNo.distance.Reads as distance-reads
+
+messages-of-requires : tie.Need-messages-of-requires
+messages-of-requires c κs = search needs
+
+returns : tie.Need-returns
+unfolding sent
+returns c = rw (← c .before .before .messages-of .ensures, ne-eqb _ _ (c .if1 .taken))
+
+distance-requires : tie.Need-distance-requires
+distance-requires c κs = search needs
+
+distance-requires-2 : tie.Need-distance-requires-2
+distance-requires-2 c κs = search needs
+
+returns-2 : tie.Need-returns-2
+unfolding sent
+returns-2 c =
+    let s = c .before .before .before in
+    rw (
+      ← s .before .before .messages-of .ensures,
+      eq-eqb _ _ (s .if1 .left),
+      ← c .before .distance .ensures,
+      ← c .distance2 .ensures,
+    )
+
+pub is-sent-spec : {M : Type 1} → statement M
+is-sent-spec =
+    tie.close
+    (tie.spec messages-of-requires returns distance-requires distance-requires-2 returns-2)
