@@ -3,16 +3,17 @@
 //! slots, and digests of slots and memory. `LW_SEED` and `LW_SCRIPTS` choose the first
 //! seed and the number of scripts of each kind, `LW_CALLS` another program.
 
+mod programs;
+
 use reference::calls;
 use reference::demand::Care;
 use reference::ends::{Sound, Start};
 use reference::faults::{Fault, Faulty, FoundBy};
 use reference::rng::Rng;
 use reference::script::{Wild, of_list};
+use reference::settings::number_from_env;
 use reference::simulator::{Profile, come_round, simulate};
-use std::env;
 use std::io::{Read, Write};
-use std::path::{Path, PathBuf};
 use std::process::{Command, Stdio};
 use std::thread;
 
@@ -24,37 +25,14 @@ const LONG_CALLS: usize = 400_000;
 /// The longest line that is read.
 const LONGEST: usize = 200_000;
 
-fn number_from_env(name: &str, default: u64) -> u64 {
-    match env::var(name) {
-        Err(env::VarError::NotPresent) => default,
-        Ok(text) => text
-            .parse()
-            .unwrap_or_else(|_| panic!("{name} is {text:?}, which is not a decimal number")),
-        Err(error) => panic!("{name}: {error}"),
-    }
-}
-
 fn seeds() -> std::ops::Range<u64> {
     let first = number_from_env("LW_SEED", 1);
     first..first + number_from_env("LW_SCRIPTS", 24)
 }
 
-fn program() -> PathBuf {
-    if let Some(path) = env::var_os("LW_CALLS") {
-        return path.into();
-    }
-    let path = Path::new(env!("CARGO_MANIFEST_DIR")).join("../../target/bin/calls");
-    assert!(
-        path.is_file(),
-        "{} is absent. Make it with `rt check calls` in the root of the repository, then run this again.",
-        path.display()
-    );
-    path
-}
-
 /// What the program writes for this input, handed to it in pieces of this size.
 fn output_in_pieces(input: &[u8], piece: usize) -> String {
-    let path = program();
+    let path = programs::path("calls");
     let mut child = Command::new(&path)
         .stdin(Stdio::piped())
         .stdout(Stdio::piped())

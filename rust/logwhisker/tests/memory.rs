@@ -17,12 +17,12 @@ use reference::host::{Answer, Host};
 use reference::refusal;
 use reference::replay::{self, OWN, PEER};
 use reference::rng::Rng;
+use reference::settings::number_from_env;
 use reference::traffic::{Kind, Traffic};
 use reference::wire::{
     self, FRAME_HEADER, LONGEST_FRAME, MESSAGE_HEADER, Message, next_header, write_frame,
 };
 use std::collections::BTreeMap;
-use std::env;
 
 const DEFAULT_SEED: u64 = 1;
 const DEFAULT_FRAMES: u64 = 400_000;
@@ -33,16 +33,6 @@ const MEMORIES: [usize; 10] = [4_096, 68, 65_536, 4, 4_096, 0, 68, 4_096, 3, 4];
 const SIZES: [usize; 4] = [300, 1_500, 2_000, LONGEST_FRAME];
 /// Bytes on both sides of memory that must stay as they are.
 const MARGIN: usize = 64;
-
-fn number_from_env(name: &str, default: u64) -> u64 {
-    match env::var(name) {
-        Err(env::VarError::NotPresent) => default,
-        Ok(text) => text
-            .parse()
-            .unwrap_or_else(|_| panic!("{name} is {text:?}, which is not a decimal number")),
-        Err(error) => panic!("{name}: {error}"),
-    }
-}
 
 /// Frames of one size, one behind another, and the memory they are received into.
 struct Run {

@@ -3,18 +3,19 @@
 //! `LW_REPLAY` another program; a difference is shown with the line that made it.
 
 mod faulty_host;
+mod programs;
 
 use faulty_host::{Fault, Faulty, Seen};
 use reference::cases::WHOLE_CASE;
 use reference::host::{Answer, Host};
 use reference::refusal;
 use reference::replay::{self, MOST_LINES, Replay};
+use reference::settings::number_from_env;
 use reference::traffic::{Kind, Traffic};
 use reference::wire::{Message, write_frame};
-use std::env;
 use std::fs::{self, File};
 use std::io::{self, Read, Write};
-use std::path::{Path, PathBuf};
+use std::path::Path;
 use std::process::{Child, Command, ExitStatus, Stdio};
 use std::sync::mpsc::{SyncSender, sync_channel};
 use std::thread::{self, JoinHandle};
@@ -28,29 +29,6 @@ const RUN: u64 = 500_000;
 /// Bytes handed to the program at once.
 const CHUNK: usize = 1 << 16;
 
-fn number_from_env(name: &str, default: u64) -> u64 {
-    match env::var(name) {
-        Err(env::VarError::NotPresent) => default,
-        Ok(text) => text
-            .parse()
-            .unwrap_or_else(|_| panic!("{name} is {text:?}, which is not a decimal number")),
-        Err(error) => panic!("{name}: {error}"),
-    }
-}
-
-fn program() -> PathBuf {
-    if let Some(path) = env::var_os("LW_REPLAY") {
-        return path.into();
-    }
-    let path = Path::new(env!("CARGO_MANIFEST_DIR")).join("../../target/bin/replay");
-    assert!(
-        path.is_file(),
-        "{} is absent. Make it with `rt check replay` in the root of the repository, then run this again.",
-        path.display()
-    );
-    path
-}
-
 /// The program at work, with a thread that feeds it and one that reads it, so that
 /// neither side waits for the other with a full pipe.
 struct Running {
@@ -62,7 +40,7 @@ struct Running {
 
 impl Running {
     fn start() -> Running {
-        let path = program();
+        let path = programs::path("replay");
         let mut child = Command::new(&path)
             .stdin(Stdio::piped())
             .stdout(Stdio::piped())
@@ -409,7 +387,7 @@ fn input_from_a_file() {
     let path = Path::new(env!("CARGO_TARGET_TMPDIR")).join("replay-input");
     let input = Traffic::new(14, Kind::Guided).text(5_000);
     fs::write(&path, &input).expect("the folder is there for tests to write to");
-    let output = Command::new(program())
+    let output = Command::new(programs::path("replay"))
         .stdin(File::open(&path).expect("it was written"))
         .output()
         .expect("the program starts");

@@ -3,6 +3,8 @@
 //! where all was read and written. `LW_REPLAY` and `LW_CALLS` choose other programs;
 //! what takes long is left to `make soak`.
 
+mod programs;
+
 use reference::calls;
 use reference::ends::Sound;
 use reference::replay;
@@ -14,31 +16,18 @@ use std::fs::{self, File, OpenOptions};
 use std::io::{BufReader, BufWriter, Read, Write};
 use std::os::fd::FromRawFd;
 use std::os::unix::process::ExitStatusExt;
-use std::path::{Path, PathBuf};
+use std::path::Path;
 use std::process::{Child, Command, Output, Stdio};
 use std::thread;
 use std::time::{Duration, Instant};
 
 const SIGPIPE: i32 = 13;
 
-fn program(name: &str) -> PathBuf {
-    if let Some(path) = env::var_os(format!("LW_{}", name.to_uppercase())) {
-        return path.into();
-    }
-    let path = Path::new(env!("CARGO_MANIFEST_DIR")).join("../../target/bin").join(name);
-    assert!(
-        path.is_file(),
-        "{} is absent. Make it with `rt check {name}` in the root of the repository, then run this again.",
-        path.display()
-    );
-    path
-}
-
 /// The program under a shell that redirects its streams.
 fn start(name: &str, redirections: &str) -> Child {
     Command::new("sh")
         .args(["-c", &format!("exec \"$0\" {redirections}")])
-        .arg(program(name))
+        .arg(programs::path(name))
         .stdin(Stdio::piped())
         .stdout(Stdio::piped())
         .stderr(Stdio::piped())
@@ -116,7 +105,7 @@ fn output_that_is_cut_off() {
     // `ulimit -f` counts in blocks of 512 bytes; the signal for a file that grows past it is ignored.
     let mut child = Command::new("sh")
         .args(["-c", "trap '' XFSZ; ulimit -f 256; exec \"$0\" >\"$1\""])
-        .arg(program("replay"))
+        .arg(programs::path("replay"))
         .arg(&path)
         .stdin(Stdio::piped())
         .stderr(Stdio::piped())
@@ -223,7 +212,7 @@ fn failing_after(sent: &[u8]) -> File {
 /// had not ended has none, and there are no totals.
 #[test]
 fn input_that_fails_behind_answers() {
-    let output = Command::new(program("replay"))
+    let output = Command::new(programs::path("replay"))
         .stdin(failing_after(b"00\n00\n01"))
         .output()
         .expect("the program starts");
@@ -257,7 +246,7 @@ fn a_gigabyte() {
     let mut expected = Vec::new();
     let input = BufReader::new(File::open(&path).expect("it is there"));
     replay::run(input, &mut expected).expect("it can be read");
-    let from_file = Command::new(program("replay")).stdin(File::open(&path).expect("it is there")).output();
+    let from_file = Command::new(programs::path("replay")).stdin(File::open(&path).expect("it is there")).output();
     assert!(from_file.expect("the program starts").stdout == expected, "from a file");
     let mut child = start("replay", "");
     let mut stdin = child.stdin.take().expect("it is piped");

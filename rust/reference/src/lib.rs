@@ -18,6 +18,7 @@ pub mod refusal;
 pub mod replay;
 pub mod rng;
 pub mod script;
+pub mod settings;
 pub mod simulator;
 pub mod traffic;
 pub mod windows;

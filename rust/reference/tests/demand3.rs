@@ -9,18 +9,8 @@ use reference::host::Answer;
 use reference::list::Call;
 use reference::premises::{self, Forbidden};
 use reference::rng::Rng;
+use reference::settings::number_from_env;
 use reference::simulator::{Profile, Tally, check_list, come_round, simulate};
-use std::env;
-
-fn number_from_env(name: &str, default: u64) -> u64 {
-    match env::var(name) {
-        Err(env::VarError::NotPresent) => default,
-        Ok(text) => text
-            .parse()
-            .unwrap_or_else(|_| panic!("{name} is {text:?}, which is not a decimal number")),
-        Err(error) => panic!("{name}: {error}"),
-    }
-}
 
 /// Fails unless each was met; lists without these are lists about next to nothing.
 fn assert_met(tally: &Tally, met: &[(&str, u64)], refusals: &[usize]) {

@@ -6,10 +6,10 @@
 //! checks the independent reader too, and not only that two readers agree.
 
 use reference::rng::Rng;
+use reference::settings::number_from_env;
 use reference::wire::{
     FRAME_HEADER, HAS_MESSAGES, LONGEST_FRAME, MESSAGE_HEADER, Message, write_frame,
 };
-use std::env;
 use std::fmt::Write;
 use std::ops::ControlFlow;
 
@@ -43,16 +43,6 @@ impl Settings {
             seed: number_from_env("LW_SEED", DEFAULT_SEED),
             inputs: number_from_env("LW_INPUTS", DEFAULT_INPUTS),
         }
-    }
-}
-
-fn number_from_env(name: &str, default: u64) -> u64 {
-    match env::var(name) {
-        Err(env::VarError::NotPresent) => default,
-        Ok(text) => text
-            .parse()
-            .unwrap_or_else(|_| panic!("{name} is {text:?}, which is not a decimal number")),
-        Err(error) => panic!("{name}: {error}"),
     }
 }
 

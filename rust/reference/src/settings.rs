@@ -1,0 +1,14 @@
+//! What a test or a program takes from its environment.
+
+use std::env;
+
+/// The decimal number in a variable, or a default where it is not set.
+pub fn number_from_env(name: &str, default: u64) -> u64 {
+    match env::var(name) {
+        Err(env::VarError::NotPresent) => default,
+        Ok(text) => text
+            .parse()
+            .unwrap_or_else(|_| panic!("{name} is {text:?}, which is not a decimal number")),
+        Err(error) => panic!("{name}: {error}"),
+    }
+}
