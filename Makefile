@@ -4,9 +4,9 @@ PREFIX ?= /usr/local
 DESTDIR ?=
 SEED ?= 2
 
-# What the library for C is made from: its crate and those that crates.txt lists behind it.
+# What the library for C is made from: its crate, those that crates.txt lists behind it, and octets, which these name.
 CAPI := target/staticlib/libcapi.a
-CAPI_CRATES := capi $(shell sed -n 's/^capi://p' crates.txt)
+CAPI_CRATES := capi octets $(shell sed -n 's/^capi://p' crates.txt)
 CAPI_SOURCES := $(wildcard $(foreach crate,$(CAPI_CRATES),crates/$(crate)/src/*.rt crates/$(crate)/specs/*.antt))
 
 .PHONY: test check replay bench soak install pictures clean

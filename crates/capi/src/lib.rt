@@ -1,6 +1,6 @@
 // What a C program is offered: reading a frame's layout and asking a refusal's class. Assumes of a caller that a slice's pointer
-// and length are right (include/logwhisker.h). It promises one number a call, over any bytes, as specs/Numbers.antt and the
-// reader's definitions say.
+// and length are right (include/logwhisker.h). It promises one number a call, over any bytes, as specs/Numbers.antt,
+// layout/specs/Layout.antt and wire/specs/Reading.antt say.
 ghost use mathlib.Core.Path.{_≡_};
 ghost use Rattle.refusal.specs.Class.{classOf, classNumber};
 ghost use Rattle.wire.specs.Reading.{destination, source, number, ackStart, ackCount, flags};
@@ -15,7 +15,7 @@ pub extern "C" fn lw_layout_refusal(frame: &[u8]) -> u32
     layout::layout_of(frame).refusal() as u32
 }
 
-// How many messages the frame has.
+// How many messages the frame has; 0 where the layout is refused.
 #[no_mangle]
 pub extern "C" fn lw_message_count(frame: &[u8]) -> u32
     ensures { λ r. ⌜ r ≡ messagesOf (layoutIn (now (frame .entry))) ⌝ }
@@ -23,7 +23,7 @@ pub extern "C" fn lw_message_count(frame: &[u8]) -> u32
     layout::layout_of(frame).messages()
 }
 
-// How many data bytes its messages carry.
+// How many data bytes its messages carry; 0 where the layout is refused.
 #[no_mangle]
 pub extern "C" fn lw_data_bytes(frame: &[u8]) -> u32
     ensures { λ r. ⌜ r ≡ bytesOf (layoutIn (now (frame .entry))) ⌝ }

@@ -1,4 +1,5 @@
 -- The second pass over a frame's messages: what writing them one after another leaves.
+-- Nothing of this needs to be believed: reception/proofs/Passes.antt shows that both passes come to takeAll of host/specs/Host.antt.
 use Prim.Native.Nat.{ℕ, zero, suc, _/_, _%_}
 use mathlib.Core.Bool.{Bool, cond}
 use mathlib.Core.List.{List}

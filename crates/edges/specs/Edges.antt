@@ -6,7 +6,19 @@ use lib.Dec.{eqb}
 use lib.ListN.{take, replicate}
 use Rattle.transactions.specs.Transactions.{free}
 use Rattle.wire.specs.Format.{Message}
-use Rattle.wire.specs.Reading.{Read, bad, good, readFrame}
+use Rattle.seq.specs.Ring.{distance, frameSpace}
+use Rattle.wire.specs.Reading.{
+  Read,
+  bad,
+  good,
+  destination,
+  source,
+  number,
+  ackStart,
+  ackCount,
+  flags,
+  readFrame,
+}
 use Rattle.wire.specs.Writing.{frameOf}
 use Rattle.host.specs.declared.Pair.{Pair}
 use Rattle.host.specs.declared.Answer.{Answer}
@@ -20,17 +32,23 @@ use Rattle.card.specs.Card.{Added, freshCard, openTransaction, addMessage}
 pub data Edge : Type 0 where
   -- a pair whose next frame and lowest transaction are these, a memory of so many bytes, and a frame
   receives : (next lowest memory : ℕ) → List ℕ → Edge
-  -- the reading of a layout
+  -- the sequence distance from the next frame's number to another
+  measures : (next number : ℕ) → Edge
+  -- the fields of a frame header, and the reading of a layout
+  heads : List ℕ → Edge
   reads : List ℕ → Edge
   -- a fresh card of this frame limit, a transaction of two data messages, and the data added to it, the latest first
   adds : (limit : ℕ) → List (List ℕ) → Edge
 
--- An accepted frame and one that comes again; a refusal by its number; a layout; where an added message's header is.
+-- An accepted frame and one that comes again; a refusal by its number; a distance; header fields; a layout; where an added message's
+-- header is.
 pub data Outcome : Type 0 where
   taken : Outcome
   again : Outcome
   nothing : Outcome
   refused : ℕ → Outcome
+  far : ℕ → Outcome
+  fields : List ℕ → Outcome
   layout : Read → Outcome
   header : ℕ → Outcome
 
@@ -65,6 +83,8 @@ placed s = cond (eqb (s .refusal) 0) (header (s .card .last)) (refused (s .refus
 
 abbrev pub outcome : Edge → Outcome
 outcome (receives next lowest memory f) = told (receiveOf (pairAt next lowest) f (replicate memory 0) .answer)
+outcome (measures next n) = far (distance frameSpace next n)
+outcome (heads f) = fields (destination f ∷ source f ∷ number f ∷ ackStart f ∷ ackCount f ∷ flags f ∷ [])
 outcome (reads f) = layout (readFrame true f)
 outcome (adds limit datas) = placed (added limit datas .step)
 
@@ -114,6 +134,7 @@ cases =
     ∷ is (receives 0 0 4 (numbered 32767)) (refused 6)
     ∷ is (receives 0 0 4 (numbered 32768)) again
     -- E2: from next 65,530 the frame 3 is 9 on
+    ∷ is (measures 65530 3) (far 9)
     ∷ is (receives 65530 0 4 (numbered 3)) taken
     -- E3: from next 3 the frame 65,530 is behind
     ∷ is (receives 3 0 4 (numbered 65530)) again
@@ -126,7 +147,8 @@ cases =
     -- E6: in 68 bytes a write of none fits at 68, and not at 69
     ∷ is (receives 0 0 68 (bare 0 0 0 68)) taken
     ∷ is (receives 0 0 68 (bare 0 0 0 69)) (refused 11)
-    -- E7: the 38 bytes read as one message, the first 37 of them as cut
+    -- E7: the 38 bytes read as a header from 2 to 1 and one message, the first 37 of them as cut
+    ∷ is (heads wholeCase) (fields (1 ∷ 2 ∷ 0 ∷ 0 ∷ 0 ∷ 1 ∷ []))
     ∷ is (reads wholeCase) (layout (good (wholeMessage ∷ [])))
     ∷ is (reads (take 37 wholeCase)) (layout (bad 5))
     -- E8: in 34 bytes a message without data fits, and one with a byte does not

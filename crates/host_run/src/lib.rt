@@ -1,5 +1,6 @@
-// The host driven over many frames in one call, so that a test can see the memory it leaves and a benchmark can time it. Assumes
-// nothing. It promises what running receive one frame after another comes to (specs/Run.antt).
+// The host driven over many frames in one call, so that a test can see the memory it leaves and a benchmark can time it. Assumes of
+// a caller that pointers and lengths are right and that the slices do not overlap. It promises what running receive one frame after
+// another comes to (specs/Run.antt).
 use host::Answer;
 use host::Stepped;
 ghost use mathlib.Core.Path.{_≡_};

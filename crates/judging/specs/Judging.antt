@@ -1,4 +1,5 @@
 -- The first pass over a frame's messages: what judging them one after another finds. Nothing is written by it.
+-- Nothing of this needs to be believed: reception/proofs/Passes.antt shows that both passes come to takeAll of host/specs/Host.antt.
 use Prim.Native.Nat.{ℕ, zero, suc, _+_, _/_, _%_}
 use mathlib.Core.Bool.{Bool, cond, _&&_}
 use mathlib.Core.List.{List}

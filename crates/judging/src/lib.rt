@@ -116,8 +116,8 @@ fn one_if(done: bool) -> u32
     0
 }
 
-// Judges a frame's messages, each against what those before it leave, for a memory of size bytes; 5 where one passes the end, and
-// 2 where the frame is too long to be read.
+// Judges a frame's messages, each against what those before it leave, for a memory of size bytes, up to the first that is
+// refused or passes the end (5); 2 where the frame is too long to be read.
 pub fn judge_all(low: TransNo, shut: u32, places: [Open; 32], f: &[u8], size: usize) -> Judged
     ensures { λ r. ⌜ r ≡ judgedOf (now (f .entry)) (record { lowest = low .0; closed = shut; table = places }) size ⌝ }
 {

@@ -15,11 +15,12 @@ headingOf ids f =
     cond (ltb (length f) 10) 1
     (cond (ltb frameMost (length f)) 2 (cond (not ids) 3 (cond (ltb 1 (flags f)) 4 0)))
 
--- A layout: the refusal's number, or how many messages the frame has and how many data bytes they carry.
+-- The data bytes of some messages.
 unfoldable pub total : List Message → ℕ
 total [] = 0
 total (m ∷ ms) = length (m .bytes) + total ms
 
+-- A layout: the refusal's number, or how many messages the frame has and how many data bytes they carry.
 abbrev pub layoutOf : Read → Layout
 layoutOf (bad r) = Refused r
 layoutOf (good ms) = Counts (length ms) (total ms)

@@ -32,7 +32,7 @@ pub record Awaited (p : Pair) (f : List ℕ) (num d : ℕ) : Type 0 where
   pub num-is : num ≡ number f
   pub d-is : d ≡ distance frameSpace (p .next .0) num
 
--- What is made of it where its number is new, and where it is not: then memory is not touched.
+-- What is made of it where it is to be taken in, and where it is behind, ahead or accepted already: then memory is not touched.
 abbrev pub TakesFrame : Pair → List ℕ → List ℕ → ℕ → Stepped → List ℕ → Type 0
 TakesFrame p f memory num r left =
     (d : ℕ) → Awaited p f num d → d < 64 → mark (p .marks) d ≡ false

@@ -96,7 +96,7 @@ fn take_closing(pair: Pair, f: &[u8], memory: &mut [u8], number: FrameNo, all: C
     }
 }
 
-// A frame with messages and a new number: its messages are judged, and where none is refused all take effect. The first pass
+// A frame with messages, in the window and not accepted yet: its messages are judged, and where none is refused all take effect. The first pass
 // finds a bad layout by itself.
 fn take_in(pair: Pair, f: &[u8], memory: &mut [u8], number: FrameNo) -> Stepped
     ensures { λ r. ⌜ TakesFrame pair (now (f .entry)) (now (memory .entry)) (number .0) r (now (memory .exit)) ⌝ }
@@ -124,7 +124,7 @@ fn take_in(pair: Pair, f: &[u8], memory: &mut [u8], number: FrameNo) -> Stepped
     }
 }
 
-// A frame with messages whose number is not new: its layout is judged all the same.
+// A frame with messages that is behind, ahead, or in the window and accepted already: its layout is judged first.
 fn answer_old(pair: Pair, f: &[u8], number: FrameNo, d: u16) -> Stepped
     ensures { λ r. ⌜ AnswersOld pair (now (f .entry)) (number .0) d r ⌝ }
 {

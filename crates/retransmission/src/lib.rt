@@ -1,4 +1,4 @@
-// What goes out, again and again until it is acknowledged: reading acknowledgements, showing a held frame, choosing what goes out
+// What the card sends again, and until when: reading acknowledgements, showing a held frame, choosing what goes out
 // next. A part of what is lent is handed out. Assumes nothing of card and slots. It promises what card/specs/Card.antt says.
 use card::Card;
 use card::Stepped;
@@ -137,7 +137,7 @@ fn oldest_frame(card: Card, slots: &[u8]) -> &[u8]
 }
 
 // Chooses what goes out next: the lent acknowledgement, or the oldest held frame, each as a part of its own buffer; an empty part
-// where there is neither.
+// where the choice is refused.
 pub fn choose_next<'a>(card: Card, slots: &'a [u8], ack: &'a [u8]) -> &'a [u8]
     ensures { λ r. ⌜ now r ≡ chooseNext card (now (slots .entry)) (now (ack .entry)) ⌝ }
 {
