@@ -1,4 +1,4 @@
--- The text of an answer line (P4, P5): a letter, numbers in decimal with a space before each, and a newline.
+-- The text of an answer line: a letter, numbers in decimal with a space before each, and a newline.
 use Prim.Native.Nat.{ℕ, _+_}
 use mathlib.Core.Bool.{Bool, false, cond}
 use mathlib.Core.List.{List, [], _∷_, _++_}

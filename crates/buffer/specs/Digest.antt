@@ -1,4 +1,4 @@
--- FNV-1a of 64 bits: the hash goes through a buffer byte by byte; each byte is laid over its low bits, and the whole is multiplied
+-- FNV-1a of 64 bits: the hash goes through a buffer byte by byte; each byte is XORed into its low bits, and the whole is multiplied
 -- by a prime.
 use Prim.Native.Nat.{ℕ, _*_, _%_, _^_}
 use mathlib.Core.List.{List, [], _∷_}

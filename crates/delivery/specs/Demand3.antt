@@ -108,7 +108,7 @@ unfoldable pub notTooLate : Book → List Observation → Bool
 notTooLate b [] = true
 notTooLate b (s ∷ ss) = inTime b (s .event) && notTooLate (bookStep b s) ss
 
--- Two writes have no byte in common.
+-- A write covers a byte; two writes have no byte in common.
 abbrev pub Covers : Write → ℕ → Type 0
 Covers w x = (w .at ≤ x) × (x < w .at + length (w .bytes))
 

@@ -1,4 +1,4 @@
--- What a line of the input is, and which frame it spells (P1, N14). A character is its ASCII number; a newline is 10.
+-- What a line of the input is, and which frame it spells. A character is its ASCII number; a newline is 10.
 use Prim.Native.Nat.{ℕ, _+_, _-_, _*_}
 use mathlib.Core.Bool.{Bool, true, false, cond}
 use mathlib.Core.List.{List, [], _∷_}

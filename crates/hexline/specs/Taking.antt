@@ -1,4 +1,4 @@
--- What is known of a line after some of its characters, and what the taking functions answer.
+-- What is known of a line after some of its characters, and what taking characters in answers.
 -- Any length of line is taken: of the bytes that it spells, the first 9,001 are kept, one more than a frame can have.
 use Prim.Native.Nat.{ℕ, _+_, _*_, _%_}
 use mathlib.Core.Bool.{Bool, true, false, cond}

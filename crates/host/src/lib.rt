@@ -33,7 +33,7 @@ pub struct Sums {
     pub completed: u32,
 }
 
-// "Again" (01's word) is a frame that was accepted before or lies behind.
+// "Again" (a term of the rules) is a frame that was accepted before or lies behind.
 pub enum Answer {
     Accepted(FrameNo, Sums),
     Again(FrameNo),

@@ -55,6 +55,7 @@ kindOf w =
 abbrev pub form : ℕ → List ℕ → Bool → Form
 form count most bytes = record { most = most; count = count; bytes = bytes }
 
+-- A card takes own and peer ID, L, the bytes of its slots, and whether the change of frame sizes has come, which is not looked at yet.
 abbrev pub formOf : Kind → Form
 formOf Card = form 5 (65535 ∷ 65535 ∷ 4294967295 ∷ 600000 ∷ 1 ∷ []) false
 formOf Host = form 3 (65535 ∷ 65535 ∷ 1048576 ∷ 0 ∷ 0 ∷ []) false

@@ -5,7 +5,7 @@ ghost use Prim.Native.Nat.{_≤_};
 ghost use lib.ListN.{length, set};
 ghost use Rattle.octets.specs.Octets.{little, inside, written};
 
-// Most bytes that a frame can carry: what a copy through a local array has room for.
+// A frame has no more bytes than this: what a copy through a local array has room for.
 const HELD: usize = 9000;
 
 // Writes src into memory from at on, and answers whether it did.

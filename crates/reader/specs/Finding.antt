@@ -33,8 +33,7 @@ headerOf f = record {
   flags = flags f;
 }
 
--- The message at an offset: its header, the length of its data, whether another follows and where that one's header would
--- stand; or that it passes the frame's end.
+-- The header of the message at an offset.
 unfoldable pub headAt : List ℕ → ℕ → MessageHeader
 headAt f at = record {
   trans = record { 0 = field f at 4 };
@@ -44,6 +43,8 @@ headAt f at = record {
   at = field f (at + 16) 4;
 }
 
+-- That message: its header, the length of its data, whether another follows and where that one's header would stand; or that it
+-- passes the frame's end.
 unfoldable pub foundAt : List ℕ → ℕ → Found
 foundAt f at =
     cond (leb (dataEnd f at) (length f))

@@ -1,4 +1,4 @@
--- What a line of the replay is answered, the text of that answer, and the totals (P4, P5, P7).
+-- What a line of the replay is answered, the text of that answer, and the totals.
 use Prim.Native.Nat.{ℕ, _+_, _%_, _^_}
 use mathlib.Core.Bool.{cond}
 use mathlib.Core.List.{List, [], _∷_}

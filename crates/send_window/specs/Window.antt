@@ -17,7 +17,7 @@ emptyWindow = record { acked = 0; next = record { 0 = 0 }; base = record { 0 = 0
 abbrev pub unreleased : SendWindow → ℕ
 unreleased w = distance frameSpace (w .base .0) (w .next .0)
 
--- Held (01's word): sealed and not acknowledged. What is released was acknowledged.
+-- Held (a term of the rules): sealed and not acknowledged. What is released was acknowledged.
 unfoldable pub held : SendWindow → ℕ → Bool
 held w n =
     inRange frameSpace (w .base .0) (unreleased w) n && not (mark (w .acked) (distance frameSpace (w .base .0) n))
