@@ -14,21 +14,27 @@ fresh-pair-requires c κs = search needs
 
 returns : tie.Need-returns
 unfolding openedOf
-returns c = rw (c .fresh-pair .ensures, eq-eqb _ _ (c .before .if1 .taken))
+returns c = rw (c .fresh-pair .ensures, eq-eqb (c .before .before .args .own) 0 (c .before .if1 .taken))
 
 fresh-pair-requires-2 : tie.Need-fresh-pair-requires-2
 fresh-pair-requires-2 c κs = search needs
 
 returns-2 : tie.Need-returns-2
 unfolding openedOf
-returns-2 c = rw (c .fresh-pair2 .ensures, ne-eqb _ _ (c .before .before .if1 .left), eq-eqb _ _ (c .before .if2 .taken))
+returns-2 c =
+    let s = c .before .before in
+    let a = s .before .args in
+    rw (c .fresh-pair2 .ensures, ne-eqb (a .own) 0 (s .if1 .left), eq-eqb (a .peer) 0 (c .before .if2 .taken))
 
 fresh-pair-requires-3 : tie.Need-fresh-pair-requires-3
 fresh-pair-requires-3 c κs = search needs
 
 returns-3 : tie.Need-returns-3
 unfolding openedOf
-returns-3 c = rw (c .fresh-pair3 .ensures, ne-eqb _ _ (c .before .before .if1 .left), ne-eqb _ _ (c .before .if2 .left))
+returns-3 c =
+    let s = c .before .before in
+    let a = s .before .args in
+    rw (c .fresh-pair3 .ensures, ne-eqb (a .own) 0 (s .if1 .left), ne-eqb (a .peer) 0 (c .before .if2 .left))
 
 pub open-pair-spec : {M : Type 1} → statement M
 open-pair-spec =

@@ -1,5 +1,7 @@
 -- `transactions::address_refusal`: each test is the definition's.
 -- Assumes nothing.
+use Prim.Native.Nat.{_+_}
+use native.Mathlib.Omega.{arith}
 use borrow.Author.Tests.{lt-ltb, le-ltb}
 use Rattle.transactions.specs.Transactions.{addressRefusal}
 use borrow.Author.Needs.{needs}
@@ -16,7 +18,9 @@ add-if1 c = search needs
 
 returns : tie.Need-returns
 unfolding addressRefusal
-returns c = rw (lt-ltb _ _ (c .if1 .taken))
+returns c =
+    let a = c .before .before .args in
+    rw (lt-ltb (a .size) (a .h .at + a .len) (omega (arith, c .if1 .taken)))
 
 cast-if2 : tie.Need-cast-if2
 cast-if2 c = search needs
@@ -26,11 +30,23 @@ add-if2 c = search needs
 
 returns-2 : tie.Need-returns-2
 unfolding addressRefusal
-returns-2 c = rw (le-ltb _ _ (c .before .before .if1 .left), lt-ltb _ _ (c .if2 .taken))
+returns-2 c =
+    let s = c .before .before in
+    let a = s .before .before .args in
+    rw (
+      le-ltb (a .size) (a .h .at + a .len) (omega (arith, s .if1 .left)),
+      lt-ltb (a .size) (a .h .target + 4) (omega (arith, c .if2 .taken)),
+    )
 
 returns-3 : tie.Need-returns-3
 unfolding addressRefusal
-returns-3 c = rw (le-ltb _ _ (c .before .before .if1 .left), le-ltb _ _ (c .if2 .left))
+returns-3 c =
+    let s = c .before .before in
+    let a = s .before .before .args in
+    rw (
+      le-ltb (a .size) (a .h .at + a .len) (omega (arith, s .if1 .left)),
+      le-ltb (a .size) (a .h .target + 4) (omega (arith, c .if2 .left)),
+    )
 
 pub address-refusal-spec : {M : Type 1} → statement M
 address-refusal-spec =

@@ -13,20 +13,33 @@ returns c = rw (eq-eqb _ _ (c .if1 .taken))
 
 returns-2 : tie.Need-returns-2
 unfolding agrees
-returns-2 c = rw (ne-eqb _ _ (c .before .before .before .if1 .left), ne-eqb _ _ (c .if2 .taken))
+returns-2 c =
+    let s = c .before .before .before in
+    let a = s .before .before .args in
+    rw (ne-eqb (a .o .received) 0 (s .if1 .left), ne-eqb (a .o .count) (a .h .count) (c .if2 .taken))
 
 returns-3 : tie.Need-returns-3
 unfolding agrees
 returns-3 c =
     let c6 = c .before .before .before .before .before .before in
-    rw (ne-eqb _ _ (c6 .if1 .left), eq-eqb _ _ (c .before .before .before .if2 .left), ne-eqb _ _ (c .if3 .taken))
+    let a = c6 .before .before .args in
+    rw (
+      ne-eqb (a .o .received) 0 (c6 .if1 .left),
+      eq-eqb (a .o .count) (a .h .count) (c .before .before .before .if2 .left),
+      ne-eqb (a .o .target) (a .h .target) (c .if3 .taken),
+    )
 
 returns-4 : tie.Need-returns-4
 unfolding agrees
 returns-4 c =
     let c5 = c .before .before .before .before .before in
     let c8 = c5 .before .before .before in
-    rw (ne-eqb _ _ (c8 .if1 .left), eq-eqb _ _ (c5 .if2 .left), eq-eqb _ _ (c .before .before .if3 .left))
+    let a = c8 .before .before .args in
+    rw (
+      ne-eqb (a .o .received) 0 (c8 .if1 .left),
+      eq-eqb (a .o .count) (a .h .count) (c5 .if2 .left),
+      eq-eqb (a .o .target) (a .h .target) (c .before .before .if3 .left),
+    )
 
 pub has-same-terms-spec : {M : Type 1} → statement M
 has-same-terms-spec = tie.close (tie.spec returns returns-2 returns-3 returns-4)

@@ -3,6 +3,7 @@
 use mathlib.Core.Path.{_≡_}
 use mathlib.Core.Bool.{Bool, false, cond, not, _&&_}
 use Prim.Native.Nat.{ℕ, _<_}
+use native.Mathlib.Omega.{arith}
 use borrow.Author.Tests.{le-leb, lt-leb, lt-ltb, le-ltb, eq-eqb, ne-eqb}
 use lib.Dec.{eqb, ltb}
 use Rattle.marks.specs.Marks.{mark}
@@ -26,14 +27,16 @@ up-to-ten d closed o h len marked same l m-is m s-is s = rw (lt-leb _ _ l, ← m
 
 returns : tie.Need-returns
 unfolding termsRefusal
-returns c = rw (le-leb _ _ (c .if1 .taken))
+returns c = rw (le-leb 32 (c .before .args .d) (omega (arith, c .if1 .taken)))
 
 is-marked-requires : tie.Need-is-marked-requires
 is-marked-requires c κs = search needs
 
 returns-2 : tie.Need-returns-2
 unfolding termsRefusal
-returns-2 c = rw (lt-leb _ _ (c .before .before .if1 .left), ← c .before .is-marked .ensures, c .if2 .taken)
+returns-2 c =
+    let s = c .before .before in
+    rw (lt-leb 32 (s .before .args .d) (omega (arith, s .if1 .left)), ← c .before .is-marked .ensures, c .if2 .taken)
 
 has-same-terms-requires : tie.Need-has-same-terms-requires
 has-same-terms-requires c κs = search needs
@@ -41,8 +44,9 @@ has-same-terms-requires c κs = search needs
 returns-3 : tie.Need-returns-3
 unfolding termsRefusal
 returns-3 c =
+    let s = c .before .before .before .before in
     rw (
-      lt-leb _ _ (c .before .before .before .before .if1 .left),
+      lt-leb 32 (s .before .args .d) (omega (arith, s .if1 .left)),
       ← c .before .before .before .is-marked .ensures,
       c .before .before .if2 .left,
       ← c .before .has-same-terms .ensures,
@@ -56,9 +60,9 @@ returns-4 c =
     let c6 = c5 .before in
     let c7 = c6 .before in
     let c8 = c7 .before in
-    let left = up-to-ten _ _ _ _ (c8 .args .len) _ _ (c7 .if1 .left) (c6 .is-marked .ensures) (c5 .if2 .left)
+    let left = up-to-ten (c8 .args .d) _ _ _ (c8 .args .len) _ _ (omega (arith, c7 .if1 .left)) (c6 .is-marked .ensures) (c5 .if2 .left)
     (c4 .has-same-terms .ensures) (c .before .before .before .if3 .left) in
-    rw (left, eq-eqb _ _ (c .before .if4 .taken), lt-ltb _ _ (c .if5 .taken))
+    rw (left, eq-eqb _ _ (c .before .if4 .taken), lt-ltb 0 (c8 .args .len) (omega (arith, c .if5 .taken)))
 
 returns-5 : tie.Need-returns-5
 returns-5 c =
@@ -67,9 +71,9 @@ returns-5 c =
     let c6 = c5 .before in
     let c7 = c6 .before in
     let c8 = c7 .before in
-    let left = up-to-ten _ _ _ _ (c8 .args .len) _ _ (c7 .if1 .left) (c6 .is-marked .ensures) (c5 .if2 .left)
+    let left = up-to-ten (c8 .args .d) _ _ _ (c8 .args .len) _ _ (omega (arith, c7 .if1 .left)) (c6 .is-marked .ensures) (c5 .if2 .left)
     (c4 .has-same-terms .ensures) (c .before .before .before .if3 .left) in
-    rw (left, eq-eqb _ _ (c .before .if4 .taken), le-ltb _ _ (c .if5 .left))
+    rw (left, eq-eqb _ _ (c .before .if4 .taken), le-ltb 0 (c8 .args .len) (omega (arith, c .if5 .left)))
 
 returns-6 : tie.Need-returns-6
 returns-6 c =
