@@ -128,9 +128,9 @@ fn take_in(pair: Pair, f: &[u8], memory: &mut [u8], number: FrameNo) -> Stepped
 fn answer_old(pair: Pair, f: &[u8], number: FrameNo, d: u16) -> Stepped
     ensures { λ r. ⌜ AnswersOld pair (now (f .entry)) (number .0) d r ⌝ }
 {
-    let cut = layout::refusal_of(f, pair.own, pair.peer);
-    if cut != 0 {
-        return refusing(pair, cut, 0);
+    let bad = layout::refusal_of(f, pair.own, pair.peer);
+    if bad != 0 {
+        return refusing(pair, bad, 0);
     }
     if 32768 <= d {
         return again(pair, number);
