@@ -46,7 +46,7 @@ use Rattle.delivery.specs.Book.{
   perform,
   bookMemory,
   serialMemory,
-  bytesOf,
+  dataBytes,
   completeCount,
   transactionAt,
   acceptedMessages,
@@ -165,7 +165,7 @@ range-needed (d ∷ ds) k es h =
     omega arith
 
 by-empty : (k : ℕ) (ds : List Transaction) → bytesBy k ds [] ≡ 0
-unfolding bytesBy ofTransaction bytesOf
+unfolding bytesBy ofTransaction dataBytes
 by-empty k [] = refl
 by-empty k (d ∷ ds) = zero-add (bytesBy (suc k) ds []) ∙ by-empty (suc k) ds
 
@@ -177,25 +177,25 @@ by-below k (d ∷ ds) e es h = rw (ofTransaction-cons-other k e es (λ q. omega 
 
 by-cons : (k : ℕ) (ds : List Transaction) (e : MessageRecord) (es : List MessageRecord) → k ≤ e .trans → e .trans < k + length ds
     → bytesBy k ds (e ∷ es) ≡ length (e .bytes) + bytesBy k ds es
-unfolding bytesBy bytesOf
+unfolding bytesBy dataBytes
 by-cons k [] e es l h = absurd (omega arith)
 by-cons k (d ∷ ds) e es l h = go (λ l′ h′. by-cons (suc k) ds e es l′ h′) (ℕ-discrete (e .trans) k)
   where
     go : (suc k ≤ e .trans → e .trans < suc k + length ds
         → bytesBy (suc k) ds (e ∷ es) ≡ length (e .bytes) + bytesBy (suc k) ds es) → Dec (e .trans ≡ k)
-        → bytesOf (ofTransaction k (e ∷ es)) + bytesBy (suc k) ds (e ∷ es)
-        ≡ length (e .bytes) + (bytesOf (ofTransaction k es) + bytesBy (suc k) ds es)
-    go ih (yes q) = let a : bytesOf (ofTransaction k (e ∷ es)) ≡ length (e .bytes) + bytesOf (ofTransaction k es) =
-        ap bytesOf (ofTransaction-cons-same k e es q) in omega (arith, by-below (suc k) ds e es (omega arith))
+        → dataBytes (ofTransaction k (e ∷ es)) + bytesBy (suc k) ds (e ∷ es)
+        ≡ length (e .bytes) + (dataBytes (ofTransaction k es) + bytesBy (suc k) ds es)
+    go ih (yes q) = let a : dataBytes (ofTransaction k (e ∷ es)) ≡ length (e .bytes) + dataBytes (ofTransaction k es) =
+        ap dataBytes (ofTransaction-cons-same k e es q) in omega (arith, by-below (suc k) ds e es (omega arith))
     go ih (no q) =
-        let a : bytesOf (ofTransaction k (e ∷ es)) ≡ bytesOf (ofTransaction k es) =
-        ap bytesOf (ofTransaction-cons-other k e es q) in
+        let a : dataBytes (ofTransaction k (e ∷ es)) ≡ dataBytes (ofTransaction k es) =
+        ap dataBytes (ofTransaction-cons-other k e es q) in
         let r : bytesBy (suc k) ds (e ∷ es) ≡ length (e .bytes) + bytesBy (suc k) ds es = ih (omega arith) (omega arith) in
         omega arith
 
 by-all : (ds : List Transaction) (es : List MessageRecord) → ((e : MessageRecord) → List·Memᴰ e es → e .trans < length ds)
-    → bytesBy 0 ds es ≡ bytesOf es
-unfolding bytesOf
+    → bytesBy 0 ds es ≡ dataBytes es
+unfolding dataBytes
 by-all ds [] h = by-empty 0 ds
 by-all ds (e ∷ es) h =
     let k : e .trans < length ds = h e (List·Memᴰ·head refl) in
@@ -262,8 +262,8 @@ module _ (b : Book) (s : Sound b) (all : (i : ℕ) → i < length (b .transactio
   whole-complete = count-complete (b .transactions) 0 (acceptedMessages b)
       (λ j l. zero-first (λ t. allMessagesIn (transactionAt b j) t (acceptedMessages b) ≡ true) j (all-full j l))
 
-  pub whole-bytes : bytesOf (acceptedMessages b) ≡ bytesBy 0 (b .transactions) (addedMessages b)
-  whole-bytes = ap bytesOf all-accepted ∙ sym (by-all (b .transactions) (addedMessages b) (s .known))
+  pub whole-bytes : dataBytes (acceptedMessages b) ≡ bytesBy 0 (b .transactions) (addedMessages b)
+  whole-bytes = ap dataBytes all-accepted ∙ sym (by-all (b .transactions) (addedMessages b) (s .known))
 
   pub whole-messages : length (acceptedMessages b) ≡ neededBy (b .transactions)
   whole-messages =

@@ -9,16 +9,16 @@ use Rattle.host.specs.declared.Sums.{Sums}
 use Rattle.host.specs.declared.Answer.{Answer}
 use Rattle.host.specs.declared.Answer.the-variants.{Accepted, Again, NoMessages, Refused}
 use Rattle.delivery.specs.Book.{Expected}
-use Rattle.delivery.specs.Demand3.{kindOf, numberedAs, accepts, timesAccepted, sumOver}
+use Rattle.delivery.specs.Demand3.{seenAs, numberedAs, accepts, timesAccepted, sumOver}
 
 pub map-more : {A B : Type 0} (f : A → B) (xs : List A) (x : A) → map f (xs ++ (x ∷ [])) ≡ map f xs ++ (f x ∷ [])
 map-more f [] x = refl
 map-more {A} {B} f (y ∷ ys) x = ap {B = List B} (λ r. f y ∷ r) (map-more f ys x)
 
-pub match-more : (xs : List Answer) (rs : List Expected) (a : Answer) (r : Expected) → map kindOf xs ≡ map numberedAs rs
-    → kindOf a ≡ numberedAs r → map kindOf (xs ++ (a ∷ [])) ≡ map numberedAs (rs ++ (r ∷ []))
+pub match-more : (xs : List Answer) (rs : List Expected) (a : Answer) (r : Expected) → map seenAs xs ≡ map numberedAs rs
+    → seenAs a ≡ numberedAs r → map seenAs (xs ++ (a ∷ [])) ≡ map numberedAs (rs ++ (r ∷ []))
 match-more xs rs a r e q =
-    map-more kindOf xs a ∙ rw (e, q) (sym (map-more numberedAs rs r))
+    map-more seenAs xs a ∙ rw (e, q) (sym (map-more numberedAs rs r))
 
 pub times-more : (c : ℕ) (rs : List Expected) (r : Expected)
     → timesAccepted c (rs ++ (r ∷ [])) ≡ timesAccepted c rs + cond (accepts c r) 1 0

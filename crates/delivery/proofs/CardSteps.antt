@@ -59,7 +59,12 @@ use Rattle.delivery.specs.Book.{
   bookStep,
 }
 use Rattle.delivery.specs.System.{specified, Event, opens, adds, seals, reads, shows, chooses, System, byCard, step}
-use Rattle.delivery.specs.Demand3.{typed, ackInTime, inTime}
+use Rattle.delivery.specs.Demand3.{
+  typed,
+  ackInTime,
+  ackLateMost,
+  inTime,
+}
 use Rattle.delivery.proofs.Along.{along-more, Found, along-at}
 use Rattle.delivery.proofs.Steps.{sound-opening, sound-sealing, sound-handing, withAdded, accepted-sealed}
 use Rattle.delivery.proofs.CardFor.{SlotFor, framed, open-room, open-done, open-refused, card-opened}
@@ -351,7 +356,10 @@ module _ (cardId hostId : ℕ) (cardFits : cardId < frameSpace) (hostFits : host
       go (inr p) =
           let x = p .0 in
           let t : releasedCount b ≤ x + 32768 =
-          leb-true (releasedCount b) (x + 32768) (subst (λ (o : Option ℕ). ackInTime b o ≡ true) (p .1) late) in
+          omega (
+            arith,
+            leb-true (releasedCount b) (x + ackLateMost) (subst (λ (o : Option ℕ). ackInTime b o ≡ true) (p .1) late),
+          ) in
           rw (p .3, read-ack (x % frameSpace) (mod-lt x (lit< tt)), p .1)
           (after-card cardId hostId w (enterAck b (some x)) (acknowledged c (x % frameSpace) 1) slots
           (card-read c slots b (f .cardFor) (f .sound) x (p .2) t) (f .cardOwn) (f .cardPeer)

@@ -70,7 +70,7 @@ use Rattle.delivery.specs.Book.{
   bookMemory,
   serialWrites,
   serialMemory,
-  bytesOf,
+  dataBytes,
   completeCount,
   newlyComplete,
   enterOpening,
@@ -95,7 +95,7 @@ use Rattle.delivery.specs.Demand3.{
   ackInTime,
   inTime,
   notTooLate,
-  kindOf,
+  seenAs,
   numberedAs,
   accepts,
   timesAccepted,
@@ -115,8 +115,8 @@ unfolding distance advance latest mark withMark leading leadingOnes marksOf litt
     builtSlots withMessage addMessage sealRefusal sealFrame acknowledged readAcks frameIn showRefusal showFrame
     chooseRefusal chooseNext byCard acksFor byHost step run initial messagesIn ofTransaction allMessagesIn complete
     finished unfinishedFrom unfinished perform dataWrites completionWrite writesOf bookWrites bookMemory serialWrites
-    serialMemory bytesOf completeCount newlyComplete enterOpening enterMessage enterSealing changeAt enterAck
+    serialMemory dataBytes completeCount newlyComplete enterOpening enterMessage enterSealing changeAt enterAck
     enterHandOut enterArrival enterNoEffect enterDelivery shown chosen enter bookFrom emptyBook typed allTyped
-    frameInTime ackInTime inTime notTooLate kindOf numberedAs accepts timesAccepted sumOver neededBy bytesBy every
+    frameInTime ackInTime inTime notTooLate seenAs numberedAs accepts timesAccepted sumOver neededBy bytesBy every
     below apart noByteTwice writesAllowed passes
 computing = tt

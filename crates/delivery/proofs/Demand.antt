@@ -26,7 +26,7 @@ use Rattle.delivery.specs.Book.{
   perform,
   bookWrites,
   bookMemory,
-  bytesOf,
+  dataBytes,
   completeCount,
   bookStep,
   bookFrom,
@@ -138,7 +138,7 @@ module _ (cardId hostId : ℕ) (cardFits : cardId < frameSpace) (hostFits : host
         );
     releasedAccepted = released-accepted b (f .sound);
     noneOver = f .sound .atMost;
-    memoryAgrees = f .rest .memoryIs;
+    memoryAgrees = rw (f .rest .memoryIs) refl;
     messagesAgree = f .rest .messagesAre;
     bytesAgree = f .rest .bytesAre;
     completeAgree = f .rest .completeAre;
@@ -202,7 +202,7 @@ module _ (cardId hostId : ℕ) (cardFits : cardId < frameSpace) (hostFits : host
       })
       (emptyBook memory)
   unfolding freshCard emptyWindow noSendings fresh emptyBook bookMemory messagesIn leading perform bookWrites timesAccepted
-      sumOver bytesOf completeCount
+      sumOver dataBytes completeCount
   begins limit slots memory fit = record {
     cardFor = record {
       fitted = fit;

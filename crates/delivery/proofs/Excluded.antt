@@ -4,25 +4,12 @@
 use Prim.Native.Nat.{ℕ, zero, suc, _<_}
 use native.Mathlib.Omega.{arith}
 use mathlib.Core.Path.{_≡_, refl, ap}
-use mathlib.Core.Bool.{true, cond, _&&_}
+use mathlib.Core.Bool.{true}
 use mathlib.Core.List.{List, [], _∷_}
-use lib.Dec.{eqb, ltb}
 use lib.ListN.{getD, replicate}
-use Rattle.seq.specs.Ring.{distance, frameSpace, transSpace}
-use Rattle.octets.specs.Octets.{field}
-use Rattle.wire.specs.Reading.{number}
-use Rattle.wire.specs.Writing.{ackFrame}
-use Rattle.host.specs.declared.Pair.{Pair}
-use Rattle.host.specs.declared.Answer.{Answer}
-use Rattle.host.specs.declared.Answer.the-variants.{Accepted, Again, NoMessages, Refused}
-use Rattle.host.specs.declared.Acknowledgement.{Acknowledgement}
-use Rattle.host.specs.Host.{Received, unchanged, refused, receiveOf, rangeOf, acknowledgementOf}
-use Rattle.card.specs.declared.Card.{Card}
+use Rattle.seq.specs.Ring.{frameSpace}
 use Rattle.delivery.specs.Book.{Expected, expectAccepted, expectAgain, expectNoEffect, enter}
 use Rattle.delivery.specs.System.{
-  CardResult,
-  Implementation,
-  handedOver,
   specified,
   Event,
   opens,
@@ -39,59 +26,31 @@ use Rattle.delivery.specs.System.{
   initial,
 }
 use Rattle.delivery.specs.Demand3.{Demand3For}
+use Rattle.delivery.specs.WrongEnds.{
+  Receiving,
+  withHost,
+  withAcknowledging,
+  withCardSteps,
+  refusesAll,
+  againToAll,
+  writesFirst,
+  acknowledgesRest,
+  reporting,
+  invents,
+  windowShort,
+  forgets,
+  takesForOld,
+  acksTwo,
+  silentOnAgain,
+  releasesEarly,
+  ignoresAcks,
+  swapsIds,
+  addsNothing,
+}
 use Rattle.delivery.proofs.CardSteps.{stays}
 use Rattle.delivery.proofs.Demand.{Keeps, starts, step-any, demand3-by}
 use Rattle.delivery.proofs.Check.{passes, applied}
 use Rattle.delivery.proofs.Computing.{computing}
-
--- ---- other ends
-
-abbrev pub Receiving : Type 0
-Receiving = Pair → List ℕ → List ℕ → Received
-
--- The rules' ends but for the host's receiving, for its acknowledging, or for one step of the card.
-abbrev pub withHost : Receiving → Implementation
-withHost r = record {
-  cardOpening = specified .cardOpening;
-  hostOpening = specified .hostOpening;
-  opening = specified .opening;
-  adding = specified .adding;
-  sealing = specified .sealing;
-  reading = specified .reading;
-  showing = specified .showing;
-  choosing = specified .choosing;
-  receiving = r;
-  acknowledging = specified .acknowledging;
-}
-
-abbrev withAcknowledging : (ℕ → ℕ → Answer → ℕ → Acknowledgement) → Implementation
-withAcknowledging a = record {
-  cardOpening = specified .cardOpening;
-  hostOpening = specified .hostOpening;
-  opening = specified .opening;
-  adding = specified .adding;
-  sealing = specified .sealing;
-  reading = specified .reading;
-  showing = specified .showing;
-  choosing = specified .choosing;
-  receiving = specified .receiving;
-  acknowledging = a;
-}
-
-abbrev withCardSteps : (ℕ → ℕ → ℕ → List ℕ → CardResult) → (Card → List ℕ → ℕ → ℕ → List ℕ → CardResult)
-    → (Card → List ℕ → CardResult) → (Card → List ℕ → List ℕ → CardResult) → Implementation
-withCardSteps opened added sealed read = record {
-  cardOpening = opened;
-  hostOpening = specified .hostOpening;
-  opening = specified .opening;
-  adding = added;
-  sealing = sealed;
-  reading = read;
-  showing = specified .showing;
-  choosing = specified .choosing;
-  receiving = specified .receiving;
-  acknowledging = specified .acknowledging;
-}
 
 -- The kind of the k-th answer, as a number.
 unfoldable pub kind : Expected → ℕ
@@ -103,36 +62,6 @@ kindAt : ℕ → List Expected → ℕ
 kindAt k xs = kind (getD xs k expectNoEffect)
 
 -- ---- hosts that answer or write at will
-
-refusesAll : Receiving
-refusesAll h f m = unchanged h m (refused 1 0)
-
-againToAll : Receiving
-againToAll h f m = unchanged h m (Again (record { 0 = number f }))
-
--- Answers as the rules say, but only its first frame is written.
-writesFirst : Receiving
-writesFirst h f m =
-    let r = receiveOf h f m in
-    record { pair = r .pair; memory = cond (eqb (h .next .0) 0 && eqb (h .marks) 0) (r .memory) m; answer = r .answer }
-
--- Takes its first frame, and merely acknowledges the rest.
-acknowledgesRest : Receiving
-acknowledgesRest h f m =
-    cond (eqb (h .next .0) 0 && eqb (h .marks) 0) (receiveOf h f m) (unchanged h m (Again (record { 0 = number f })))
-
--- Reports f of the messages, g of the bytes and k of the completed transactions.
-reporting : (ℕ → ℕ) → (ℕ → ℕ) → (ℕ → ℕ) → Answer → Answer
-reporting f g k (Accepted n s) =
-    Accepted n (record { messages = f (s .messages); bytes = g (s .bytes); completed = k (s .completed) })
-reporting f g k (Again n) = Again n
-reporting f g k NoMessages = NoMessages
-reporting f g k (Refused r) = Refused r
-
-invents : (ℕ → ℕ) → (ℕ → ℕ) → (ℕ → ℕ) → Receiving
-invents f g k h s m =
-    let r = receiveOf h s m in
-    record { pair = r .pair; memory = r .memory; answer = reporting f g k (r .answer) }
 
 -- Two transactions of one byte each, a frame each, delivered in order.
 inOrder : List Event
@@ -197,11 +126,6 @@ not-invents f g k d =
 
 -- ---- hosts with one fault
 
--- The last place of the transaction window is refused.
-windowShort : Receiving
-windowShort h f m =
-    cond (ltb (distance transSpace (h .lowest .0) (field f 10 4)) 31) (receiveOf h f m) (unchanged h m (refused 7 0))
-
 manyOpens : ℕ → List Event → List Event
 manyOpens zero xs = xs
 manyOpens (suc n) xs = opens 0 0 0 ∷ manyOpens n xs
@@ -215,24 +139,6 @@ not-windowShort d =
     let z : _≡_ {A = ℕ} 3 1 = ap (kindAt 0) (applied _ d (replicate 4 0) lastOfWindow refl .answersMatch) in
     omega arith
 
--- It does not remember which frames it took.
-forgets : Receiving
-forgets h f m =
-    let r = receiveOf h f m in
-    record {
-      pair = record {
-        own = h .own;
-        peer = h .peer;
-        next = h .next;
-        marks = h .marks;
-        lowest = r .pair .lowest;
-        closed = r .pair .closed;
-        table = r .pair .table;
-      };
-      memory = r .memory;
-      answer = r .answer;
-    }
-
 twice : List Event
 twice = opens 2 0 1 ∷ adds 0 4 (9 ∷ []) ∷ seals ∷ shows 0 ∷ receives 0 ∷ receives 0 ∷ []
 
@@ -241,11 +147,6 @@ unfolding computing twice forgets kind kindAt
 not-forgets d =
     let z : _≡_ {A = ℕ} 1 2 = ap (kindAt 1) (applied _ d (replicate 10 0) twice refl .answersMatch) in
     omega arith
-
--- With a frame received ahead, it takes the frame that fills the hole for an old copy: it answers "again" and throws it away.
-takesForOld : Receiving
-takesForOld h f m =
-    cond (eqb (h .marks) 0) (receiveOf h f m) (unchanged h m (Again (record { 0 = number f })))
 
 swapped : List Event
 swapped =
@@ -258,13 +159,6 @@ not-takesForOld d =
     let z : _≡_ {A = ℕ} 2 1 = ap (kindAt 1) (applied _ d (replicate 6 0) swapped refl .answersMatch) in
     omega arith
 
--- It acknowledges the next number along with the one that it took.
-acksTwo : ℕ → ℕ → Answer → ℕ → Acknowledgement
-acksTwo own peer a num = record {
-  due = ltb 0 (rangeOf a .count);
-  frame = ackFrame peer own num (rangeOf a .start) (suc (rangeOf a .count));
-}
-
 oneOfTwo : List Event
 oneOfTwo =
     opens 2 0 1 ∷ adds 0 4 (9 ∷ []) ∷ seals ∷ adds 0 5 (9 ∷ []) ∷ seals ∷ shows 0 ∷ receives 0 ∷ reads 0 ∷ []
@@ -274,13 +168,6 @@ unfolding computing oneOfTwo acksTwo
 not-acksTwo d =
     let z : _≡_ {A = ℕ} 2 1 = applied _ d (replicate 6 0) oneOfTwo refl .releasedAgrees in
     omega arith
-
--- It does not acknowledge a frame that comes again.
-silentOnAgain : ℕ → ℕ → Answer → ℕ → Acknowledgement
-silentOnAgain own peer (Again n) num = acknowledgementOf own peer NoMessages num
-silentOnAgain own peer (Accepted n s) num = acknowledgementOf own peer (Accepted n s) num
-silentOnAgain own peer NoMessages num = acknowledgementOf own peer NoMessages num
-silentOnAgain own peer (Refused r) num = acknowledgementOf own peer (Refused r) num
 
 -- The second acknowledgement called for is of frame 0 again, and not yet of frame 1.
 repeated : List Event
@@ -296,31 +183,6 @@ not-silentOnAgain d =
 
 -- ---- cards
 
--- It releases what it seals.
-releasesEarly : Card → List ℕ → CardResult
-releasesEarly c s =
-    let r = specified .sealing c s in
-    let k = r .card in
-    record {
-      refusal = r .refusal;
-      card = record {
-        own = k .own;
-        peer = k .peer;
-        limit = k .limit;
-        used = k .used;
-        last = k .last;
-        window = record {
-          acked = k .window .acked;
-          next = k .window .next;
-          base = k .window .next;
-          sizes = k .window .sizes;
-        };
-        sendings = k .sendings;
-      };
-      slots = r .slots;
-      part = r .part;
-    }
-
 sealedOne : List Event
 sealedOne = opens 0 0 0 ∷ adds 0 0 [] ∷ seals ∷ []
 
@@ -329,10 +191,6 @@ unfolding computing sealedOne releasesEarly
 not-releasesEarly d =
     let z : _≡_ {A = ℕ} 1 0 = applied _ d (replicate 4 0) sealedOne refl .releasedAgrees in
     omega arith
-
--- It reads acknowledgements and does nothing about them.
-ignoresAcks : Card → List ℕ → List ℕ → CardResult
-ignoresAcks c s f = handedOver (specified .reading c s f .refusal) c s []
 
 acknowledgedOne : List Event
 acknowledgedOne = opens 0 0 0 ∷ adds 0 0 [] ∷ seals ∷ shows 0 ∷ receives 0 ∷ reads 0 ∷ []
@@ -343,10 +201,6 @@ not-ignoresAcks d =
     let z : _≡_ {A = ℕ} 1 2 = applied _ d (replicate 4 0) acknowledgedOne refl .releasedAgrees in
     omega arith
 
--- Its opening takes its own ID for its peer's.
-swapsIds : ℕ → ℕ → ℕ → List ℕ → CardResult
-swapsIds own peer limit slots = specified .cardOpening peer own limit slots
-
 not-swapsIds : Demand3For (withCardSteps swapsIds (specified .adding) (specified .sealing) (specified .reading)) → ⊥
 unfolding computing inOrder swapsIds kind kindAt
 not-swapsIds d =
@@ -355,11 +209,6 @@ not-swapsIds d =
 
 -- A card that adds nothing meets demand 3: the demand asks nothing to be sent. (Nor does it speak of the numbers that opening and
 -- sealing hand back: a CardResult has none.)
-abbrev addsNothing : Implementation
-addsNothing =
-    withCardSteps (specified .cardOpening) (λ c slots t at bytes. handedOver 23 c slots []) (specified .sealing)
-    (specified .reading)
-
 adds-nothing : Demand3For addsNothing
 unfolding step enter byCard byHost acksFor initial
 adds-nothing = demand3-by addsNothing starts keeps

@@ -40,7 +40,7 @@ use Rattle.delivery.specs.Book.{
   perform,
   bookWrites,
   bookMemory,
-  bytesOf,
+  dataBytes,
   changeAt,
   markAccepted,
   enterArrival,
@@ -306,7 +306,7 @@ module _ (h : Pair) (b : Book) (r : HostFor h b) (s : Sound b) (c : ℕ) (kept :
         ≡ record {
           pair = next;
           memory = bookMemory (enterArrival b c);
-          answer = answer-with (length es) (bytesOf es) (completedAll (b .transactions) pre es post);
+          answer = answer-with (length es) (dataBytes es) (completedAll (b .transactions) pre es post);
         }
 
   pub answers-first : FirstAnswer

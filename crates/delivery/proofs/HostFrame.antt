@@ -23,7 +23,7 @@ use Rattle.delivery.specs.Book.{
   ofTransaction,
   allMessagesIn,
   completionWrite,
-  bytesOf,
+  dataBytes,
 }
 use Rattle.delivery.proofs.Counts.{count, count-append, full-mono}
 use Rattle.delivery.proofs.Writes.{taken, ofTransaction-same, ofTransaction-other}
@@ -71,7 +71,7 @@ pub record FrameTaken (ds : List Transaction) (pre es post : List MessageRecord)
   pub transactionsFor : TransactionsFor (end .transactions) ds (pre ++ (es ++ post))
   pub memoryIs : end .memory ≡ takenAll ds pre es post (t .memory)
   pub messagesAre : end .messages ≡ t .messages + length es
-  pub bytesAre : end .bytes ≡ t .bytes + bytesOf es
+  pub bytesAre : end .bytes ≡ t .bytes + dataBytes es
   pub completeAre : end .completed ≡ t .completed + completedAll ds pre es post
 
 count-one : (pre : List MessageRecord) (e : MessageRecord) (post : List MessageRecord)
@@ -227,7 +227,7 @@ module _ (ds : List Transaction) (pre : List MessageRecord) (e : MessageRecord) 
     next-beyond i h = ap (count i) (append-assoc pre (e ∷ []) (es ++ post)) ∙ beyond i h
 
     joined : FrameTaken ds (pre ++ (e ∷ [])) es post (suc place) after-one → FrameTaken ds pre (e ∷ es) post place t
-    unfolding takeAll takenAll completedAll bytesOf tallied
+    unfolding takeAll takenAll completedAll dataBytes tallied
     joined rest = record {
       end = rest .end;
       isFine = rw (k .takenIn, k .notRefused) (rest .isFine);
@@ -243,7 +243,7 @@ pub frame-taken : (ds : List Transaction) (pre es post : List MessageRecord) (pl
     → TransactionsFor (t .transactions) ds (pre ++ post) → AllReady ds pre es post → Inside ds (length (t .memory)) es
     → length ds ≤ low ds (pre ++ post) + 32 → ((i : ℕ) → length ds ≤ i → count i (pre ++ (es ++ post)) ≡ 0)
     → FrameTaken ds pre es post place t
-unfolding takeAll takenAll completedAll bytesOf
+unfolding takeAll takenAll completedAll dataBytes
 frame-taken ds pre [] post place t r ready inside fit beyond = record {
   end = t;
   isFine = refl;

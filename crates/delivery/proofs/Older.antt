@@ -8,22 +8,22 @@ use Prim.Native.Nat.{ℕ, zero, suc, _+_, _%_, _≤_, _<_}
 use native.Mathlib.Nat.{mod-lt, sub-self}
 use native.Mathlib.Omega.{arith}
 use mathlib.Core.Path.{_≡_, refl, sym, ap, _∙_, subst}
-use mathlib.Core.Bool.{Bool, true, false, cond, _&&_}
+use mathlib.Core.Bool.{Bool, true, false, _&&_}
 use mathlib.Core.List.{List, [], _∷_, _++_, map}
 use mathlib.Core.Option.{some}
 use borrow.Author.Tests.{lt-ltb, ltb-true, le-leb, ne-eqb}
-use lib.Dec.{eqb, leb, ltb, lit<}
+use lib.Dec.{leb, ltb, lit<}
 use lib.ListN.{length, getD, getElem?, length-append}
 use Rattle.seq.specs.Ring.{distance, latest, frameSpace, transSpace}
 use Rattle.seq.proofs.Ring.{distance-ahead}
-use Rattle.marks.specs.Marks.{mark, leading}
+use Rattle.marks.specs.Marks.{leading}
 use Rattle.wire.specs.Format.{Message, needed}
-use Rattle.wire.specs.Reading.{number, flags, addressed, Read, bad, good, readFrame}
+use Rattle.wire.specs.Reading.{number, flags, addressed, good, readFrame}
 use Rattle.wire.specs.Writing.{frameOf}
 use Rattle.wire.proofs.RoundTrip.{Fits, frame-addressed, frame-back, frame-flags, frame-number}
 use Rattle.host.specs.declared.Pair.{Pair}
-use Rattle.host.specs.declared.Answer.the-variants.{Again, NoMessages}
-use Rattle.host.specs.Host.{Received, unchanged, refused, tallyOf, takeAll, concluded, numbered, receiveOf}
+use Rattle.host.specs.declared.Answer.the-variants.{Again}
+use Rattle.host.specs.Host.{Received, unchanged, numbered, receiveOf}
 use Rattle.host.proofs.Receiving.{received-good}
 use Rattle.delivery.specs.Book.{
   MessageRecord,
@@ -62,7 +62,6 @@ use Rattle.delivery.specs.Book.{
   emptyBook,
 }
 use Rattle.delivery.specs.System.{
-  Implementation,
   specified,
   Event,
   opens,
@@ -88,11 +87,12 @@ use Rattle.delivery.specs.Demand3.{
   notTooLate,
   WritesAllowed,
   outcomeOf,
-  kindOf,
+  seenAs,
   numberedAs,
   Guarantees,
   Demand3For,
 }
+use Rattle.delivery.specs.WrongEnds.{behind, numberedPlainly, answeredPlainly, comparesPlainly, older}
 use Rattle.delivery.proofs.Counts.{count}
 use Rattle.delivery.proofs.HostStep.{wired}
 use Rattle.delivery.proofs.CardFor.{framed}
@@ -103,7 +103,7 @@ use Rattle.delivery.proofs.Receive.{step-receives}
 use Rattle.delivery.proofs.Demand.{seen-event, starts}
 use Rattle.delivery.proofs.Check.{slots₀}
 use Rattle.delivery.proofs.Computing.{computing}
-use Rattle.delivery.proofs.Excluded.{Receiving, withHost, kind}
+use Rattle.delivery.proofs.Excluded.{kind}
 use Rattle.delivery.proofs.Entered.{
   opening-entered,
   adding-entered,
@@ -130,33 +130,6 @@ use Rattle.delivery.proofs.Rounds.{
   bares,
   page-allowed,
 }
-
--- ---- the host
-
--- Frame numbers as they stand, not by their distance on the ring.
-behind : ℕ → ℕ → Bool
-behind num next = ltb num next
-
--- As the rules say (`numbered`), but for the test whether a frame is behind.
-numberedPlainly : Pair → List ℕ → ℕ → List Message → Received
-numberedPlainly p memory num ms =
-    let d = distance frameSpace (p .next .0) num in
-    cond (behind num (p .next .0)) (unchanged p memory (Again (record { 0 = num })))
-    (cond (leb 64 d) (unchanged p memory (refused 6 0))
-    (cond (mark (p .marks) d) (unchanged p memory (Again (record { 0 = num })))
-    (concluded p memory num (takeAll (tallyOf p memory) 0 ms))))
-
--- As the rules say (`answered`, `receiveOf`), with that.
-abbrev answeredPlainly : Pair → List ℕ → List ℕ → Read → Received
-answeredPlainly p f memory (bad r) = unchanged p memory (refused r 0)
-answeredPlainly p f memory (good ms) =
-    cond (eqb (flags f) 0) (unchanged p memory NoMessages) (numberedPlainly p memory (number f) ms)
-
-comparesPlainly : Receiving
-comparesPlainly p f memory = answeredPlainly p f memory (readFrame (addressed (p .own) (p .peer) f) f)
-
-abbrev older : Implementation
-older = withHost comparesPlainly
 
 -- ---- the list
 
@@ -465,7 +438,7 @@ module _ (n : ℕ) (hs : List HandOut) (ds : List ℕ) (ys : List Expected) wher
 
   -- The book expects frame 65,536 to be accepted, and the older host, which awaits frame 65,535, answers "again".
   lost : n ≡ 65535 → length hs ≡ n → Refuted (receives n ∷ []) (page n two [] (hs ++ (frameCopy (suc n) ∷ [])) ds ys)
-  unfolding behind typed allTyped notTooLate run bookFrom step byHost messagesIn enterArrival changeAt kindOf numberedAs kind
+  unfolding behind typed allTyped notTooLate run bookFrom step byHost messagesIn enterArrival changeAt seenAs numberedAs kind
   lost is long w f =
       before (receives n) [] w b b′ refl (not-late w b n (suc n) (message 1) arrival (omega (arith, lowest)))
       (arrived w b n (suc n) (message 1) arrival ∙ rw (new, past-change n 1 (suc n) two markAccepted (omega arith)))
@@ -513,11 +486,11 @@ module _ (n : ℕ) (hs : List HandOut) (ds : List ℕ) (ys : List Expected) wher
       again : received ≡ unchanged (w .host) (w .memory) (Again (record { 0 = suc n % frameSpace }))
       again = says-again w b n (suc n) (message 1) arrival compared
 
-      differ : map kindOf (w .answers ++ (received .answer ∷ [])) ≡ map numberedAs (ys ++ (expects ∷ [])) → ⊥
+      differ : map seenAs (w .answers ++ (received .answer ∷ [])) ≡ map numberedAs (ys ++ (expects ∷ [])) → ⊥
       differ q =
           let z : _≡_ {A = ℕ} 2 1 =
-          ap (λ (r : Received). kind (kindOf (r .answer))) (sym again)
-          ∙ ap kind (sym (last-is kindOf (w .answers) (received .answer) expectNoEffect))
+          ap (λ (r : Received). kind (seenAs (r .answer))) (sym again)
+          ∙ ap kind (sym (last-is seenAs (w .answers) (received .answer) expectNoEffect))
           ∙ ap (λ (l : List Expected). kind (last expectNoEffect l)) q
           ∙ ap kind (last-is numberedAs ys expects expectNoEffect) in
           omega arith

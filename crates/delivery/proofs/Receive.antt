@@ -46,7 +46,7 @@ use Rattle.delivery.specs.Book.{
   allMessagesIn,
   transactionAt,
   bookMemory,
-  bytesOf,
+  dataBytes,
   completeCount,
   newlyComplete,
   changeAt,
@@ -58,7 +58,7 @@ use Rattle.delivery.specs.Book.{
   bookStep,
 }
 use Rattle.delivery.specs.System.{specified, receives, System, acksFor, byHost, step}
-use Rattle.delivery.specs.Demand3.{WritesAllowed, frameInTime, inTime, kindOf, numberedAs, accepts, sumOver}
+use Rattle.delivery.specs.Demand3.{WritesAllowed, copyLateMost, frameInTime, inTime, seenAs, numberedAs, accepts, sumOver}
 use Rattle.delivery.proofs.Along.{Along, along-more, Found, along-at}
 use Rattle.delivery.proofs.Counts.{count, count-append, full-mono, length-change, getD-change-same, getD-change-other}
 use Rattle.delivery.proofs.Steps.{sound-ignoring, sound-arriving, messagesIn-marked}
@@ -85,16 +85,16 @@ use Rattle.delivery.proofs.Agree.{SystemFor}
 
 -- an answer to it: no acknowledgement is due, and it is neither accepted nor again
 pub record NoEffect (h : Pair) (a : Answer) : Type 0 where
-  pub kind : kindOf a ≡ expectNoEffect
+  pub kind : seenAs a ≡ expectNoEffect
   pub noAck : acksFor specified h a ≡ []
   pub addsNothing : (g : Sums → ℕ) → adds g a ≡ 0
 
 refusal-no-effect : (h : Pair) (r : ℕ) → NoEffect h (refused r 0)
-unfolding kindOf acksFor acknowledgementOf
+unfolding seenAs acksFor acknowledgementOf
 refusal-no-effect h r = record { kind = refl; noAck = refl; addsNothing = λ g. refl }
 
 none-no-effect : (h : Pair) → NoEffect h NoMessages
-unfolding kindOf acksFor acknowledgementOf
+unfolding seenAs acksFor acknowledgementOf
 none-no-effect h = record { kind = refl; noAck = refl; addsNothing = λ g. refl }
 
 -- 10 bytes hold no message, whatever they are
@@ -323,7 +323,7 @@ module _ (cardId hostId : ℕ) (cardFits : cardId < frameSpace) (hostFits : host
 
       rest-again : Rest cardId hostId h (w .memory) (w .handOuts) (w .acks ++ acksFor specified h again)
           (w .answers ++ (again ∷ [])) (book (b .frames))
-      unfolding bookMemory accepts kindOf numberedAs
+      unfolding bookMemory accepts seenAs numberedAs
       rest-again = record {
         hostFor = record {
           nextIs = f .rest .hostFor .nextIs;
@@ -371,7 +371,7 @@ module _ (cardId hostId : ℕ) (cardFits : cardId < frameSpace) (hostFits : host
       abbrev sums : Sums
       sums = record {
         messages = length es;
-        bytes = bytesOf es;
+        bytes = dataBytes es;
         completed = completedAll (b .transactions) pre es post;
       }
 
@@ -437,7 +437,7 @@ module _ (cardId hostId : ℕ) (cardFits : cardId < frameSpace) (hostFits : host
           ∙ complete-arriving b (f .sound) c kept inside isNew
 
       after-first : (x : Pair) → HostFor x b′ → x .own ≡ hostId → x .peer ≡ cardId → For (answering x (bookMemory b′) answer) b′
-      unfolding kindOf numberedAs
+      unfolding seenAs numberedAs
       after-first x xFor o p = record {
         cardFor = card-arriving;
         cardOwn = f .cardOwn;
@@ -512,7 +512,8 @@ module _ (cardId hostId : ℕ) (cardFits : cardId < frameSpace) (hostFits : host
       reached nothingHanded m c t q = reached-short k (rw c (omega arith))
       reached lentAck m c t q = reached-short k (omega (arith, c))
       reached (frameCopy n) m c t q =
-          reached-frame k n (f .sound .handOutsSealed n m) c (leb-true (lowestNotAccepted b) (n + 32768) t) q
+          reached-frame k n (f .sound .handOutsSealed n m) c
+          (omega (arith, leb-true (lowestNotAccepted b) (n + copyLateMost) t)) q
 
       go : Found (Copied cardId hostId b) [] (w .handOuts) (b .handOuts) k → Keeps k (enterDelivery b (getElem? (b .handOuts) k))
       go (inl p) =

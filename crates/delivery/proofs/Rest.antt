@@ -60,7 +60,7 @@ use Rattle.delivery.specs.Book.{
   bookWrites,
   perform,
   bookMemory,
-  bytesOf,
+  dataBytes,
   completeCount,
   changeAt,
   markAcknowledged,
@@ -68,7 +68,7 @@ use Rattle.delivery.specs.Book.{
   enterSealing,
   enterAck,
 }
-use Rattle.delivery.specs.Demand3.{kindOf, numberedAs, timesAccepted, messagesSum, bytesSum, completeSum}
+use Rattle.delivery.specs.Demand3.{seenAs, numberedAs, timesAccepted, messagesSum, bytesSum, completeSum}
 use Rattle.delivery.proofs.Along.{Along, along-alike}
 use Rattle.delivery.proofs.Counts.{
   count,
@@ -122,10 +122,10 @@ module _ (cardId hostId : ℕ) where
     pub memoryIs : memory ≡ bookMemory b
     pub copies : AllCopied b handOuts (b .handOuts)
     pub acksAre : Along Acknowledges acks (b .acksDue)
-    pub matching : map kindOf answers ≡ map numberedAs (b .expected)
+    pub matching : map seenAs answers ≡ map numberedAs (b .expected)
     pub once : (c : ℕ) → timesAccepted c (b .expected) ≡ cond (frameAt b c .accepted) 1 0
     pub messagesAre : messagesSum answers ≡ length (acceptedMessages b)
-    pub bytesAre : bytesSum answers ≡ bytesOf (acceptedMessages b)
+    pub bytesAre : bytesSum answers ≡ dataBytes (acceptedMessages b)
     pub completeAre : completeSum answers ≡ completeCount 0 (b .transactions) (acceptedMessages b)
     pub termsTyped : (i : ℕ) → i < length (b .transactions) → TermsTyped (transactionAt b i)
     pub messagesTyped : (e : MessageRecord) → List·Memᴰ e (addedMessages b) → MessageTyped e
@@ -176,7 +176,7 @@ module _ (cardId hostId : ℕ) where
       matching = rw (u .expectedSame) (r .matching);
       once = λ c. rw (u .expectedSame, u .acceptedSame c) (r .once c);
       messagesAre = r .messagesAre ∙ sym (ap length (u .messagesSame));
-      bytesAre = r .bytesAre ∙ sym (ap bytesOf (u .messagesSame));
+      bytesAre = r .bytesAre ∙ sym (ap dataBytes (u .messagesSame));
       completeAre = r .completeAre ∙ sym (u .completeSame);
       termsTyped = terms;
       messagesTyped = messages;

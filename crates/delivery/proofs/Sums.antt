@@ -39,7 +39,7 @@ use Rattle.delivery.specs.Book.{
   bookWrites,
   perform,
   bookMemory,
-  bytesOf,
+  dataBytes,
   completeCount,
   frameAt,
   transactionAt,
@@ -136,10 +136,10 @@ complete-all ds pre (e ∷ es) post r =
     ap (completeCount 0 ds) (append-assoc pre (e ∷ []) post) in
     omega arith
 
-pub bytesOf-append : (xs ys : List MessageRecord) → bytesOf (xs ++ ys) ≡ bytesOf xs + bytesOf ys
-unfolding bytesOf
-bytesOf-append [] ys = omega arith
-bytesOf-append (x ∷ xs) ys = omega (arith, bytesOf-append xs ys)
+pub dataBytes-append : (xs ys : List MessageRecord) → dataBytes (xs ++ ys) ≡ dataBytes xs + dataBytes ys
+unfolding dataBytes
+dataBytes-append [] ys = omega arith
+dataBytes-append (x ∷ xs) ys = omega (arith, dataBytes-append xs ys)
 
 module _ (b : Book) (s : Sound b) (c : ℕ) (kept : WritesAllowed (enterArrival b c)) (inside : c < length (b .frames))
     (isNew : frameAt b c .accepted ≡ false) where
@@ -233,13 +233,13 @@ module _ (b : Book) (s : Sound b) (c : ℕ) (kept : WritesAllowed (enterArrival 
         length-append before behind,
       ))
 
-  pub bytes-arriving : bytesOf (acceptedMessages (enterArrival b c))
-      ≡ bytesOf (acceptedMessages b) + bytesOf (frameAt b c .messages)
+  pub bytes-arriving : dataBytes (acceptedMessages (enterArrival b c))
+      ≡ dataBytes (acceptedMessages b) + dataBytes (frameAt b c .messages)
   bytes-arriving = rw (messages-after, messages-before)
       (omega (
         arith,
-        bytesOf-append before (frameAt b c .messages ++ behind),
-        bytesOf-append
+        dataBytes-append before (frameAt b c .messages ++ behind),
+        dataBytes-append
             (frameAt b c .messages) behind,
-        bytesOf-append before behind,
+        dataBytes-append before behind,
       ))

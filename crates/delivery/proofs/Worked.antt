@@ -11,7 +11,7 @@ use lib.ListN.{replicate, getD}
 use Rattle.host.specs.declared.Answer.{Answer}
 use Rattle.delivery.specs.Book.{expectAccepted, expectAgain, expectNoEffect, finished, bookMemory}
 use Rattle.delivery.specs.System.{specified, Event, opens, adds, seals, reads, shows, chooses, receives}
-use Rattle.delivery.specs.Demand3.{Apart, WritesAllowed, outcomeOf, kindOf, Guarantees, messagesSum, bytesSum, completeSum}
+use Rattle.delivery.specs.Demand3.{Apart, WritesAllowed, outcomeOf, seenAs, Guarantees, messagesSum, bytesSum, completeSum}
 use Rattle.delivery.proofs.Demand.{demand3}
 use Rattle.delivery.proofs.Check.{runs, booked, passes, applied}
 use Rattle.delivery.proofs.Computing.{computing}
@@ -56,7 +56,7 @@ answers = runs specified memory events .system .answers
 
 -- What the theorem says of this list: the answers, frame by frame; three messages, five bytes, two transactions; and memory as
 -- if the two had run one after the other.
-said : map kindOf answers
+said : map seenAs answers
     ≡ expectAccepted 1 (record { messages = 1; bytes = 1; completed = 0 })
     ∷ expectAccepted 0 (record { messages = 1; bytes = 2; completed = 1 })
     ∷ expectAgain 0

@@ -166,9 +166,9 @@ serialMemory b = perform (b .start) (serialWrites 0 (b .transactions) (addedMess
 
 -- ---- sums
 
-unfoldable pub bytesOf : List MessageRecord → ℕ
-bytesOf [] = 0
-bytesOf (e ∷ es) = length (e .bytes) + bytesOf es
+unfoldable pub dataBytes : List MessageRecord → ℕ
+dataBytes [] = 0
+dataBytes (e ∷ es) = length (e .bytes) + dataBytes es
 
 -- How many of the transactions from the i-th on have all their messages among some.
 unfoldable pub completeCount : ℕ → List Transaction → List MessageRecord → ℕ
@@ -266,7 +266,7 @@ firstAnswer b c frames =
     expectAccepted c
     (record {
       messages = length es;
-      bytes = bytesOf es;
+      bytes = dataBytes es;
       completed = newlyComplete 0 (b .transactions) (acceptedMessages b) (messagesIn isAccepted frames);
     })
 

@@ -1,5 +1,5 @@
 -- Demand 3: its premises and what follows from them, over a list of calls from two fresh ends.
-use Prim.Native.Nat.{ℕ, zero, suc, _+_, _%_, _≤_, _<_}
+use Prim.Native.Nat.{ℕ, suc, _+_, _%_, _≤_, _<_}
 use mathlib.Core.Path.{_≡_}
 use mathlib.Core.Bool.{Bool, true, false, cond, _&&_}
 use mathlib.Core.List.{List, [], _∷_, map, List·Memᴰ}
@@ -54,7 +54,7 @@ use Rattle.delivery.specs.Book.{
   writesOf,
   bookMemory,
   serialMemory,
-  bytesOf,
+  dataBytes,
   completeCount,
   bookStep,
   emptyBook,
@@ -84,16 +84,24 @@ unfoldable pub allTyped : List Event → Bool
 allTyped [] = true
 allTyped (x ∷ xs) = typed x && allTyped xs
 
--- Nothing arrives more than 32,768 numbers late, each arrival taken with the book as it stands then.
+-- Late (a term of the rules) on arrival: a copy of a sealed frame by the host's lowest count not accepted less its own, an
+-- acknowledgement by the card's lowest not released less the answered frame's. Neither may be more than 32,768 numbers late, each
+-- arrival taken with the book as it stands then.
+abbrev pub copyLateMost : ℕ
+copyLateMost = 32768
+
+abbrev pub ackLateMost : ℕ
+ackLateMost = 32768
+
 unfoldable pub frameInTime : Book → Option HandOut → Bool
 frameInTime b none = true
 frameInTime b (some nothingHanded) = true
 frameInTime b (some lentAck) = true
-frameInTime b (some (frameCopy c)) = leb (lowestNotAccepted b) (c + 32768)
+frameInTime b (some (frameCopy c)) = leb (lowestNotAccepted b) (c + copyLateMost)
 
 unfoldable pub ackInTime : Book → Option ℕ → Bool
 ackInTime b none = true
-ackInTime b (some c) = leb (releasedCount b) (c + 32768)
+ackInTime b (some c) = leb (releasedCount b) (c + ackLateMost)
 
 unfoldable pub inTime : Book → Event → Bool
 inTime b (opens count target value) = true
@@ -155,11 +163,11 @@ abbrev pub outcomeOf : System → Outcome
 outcomeOf w = record { answers = w .answers; memory = w .memory; unreleasedFrames = unreleased (w .card .window) }
 
 -- What an answer comes to. Which refusal is given to what carries no message is left open.
-unfoldable pub kindOf : Answer → Expected
-kindOf (Accepted n sums) = expectAccepted (n .0) sums
-kindOf (Again n) = expectAgain (n .0)
-kindOf NoMessages = expectNoEffect
-kindOf (Refused r) = expectNoEffect
+unfoldable pub seenAs : Answer → Expected
+seenAs (Accepted n sums) = expectAccepted (n .0) sums
+seenAs (Again n) = expectAgain (n .0)
+seenAs NoMessages = expectNoEffect
+seenAs (Refused r) = expectNoEffect
 
 -- The answer that the book expects, with the frame's number in the place of its count.
 unfoldable pub numberedAs : Expected → Expected
@@ -201,7 +209,7 @@ neededBy (d ∷ ds) = needed (d .count) + neededBy ds
 
 unfoldable pub bytesBy : ℕ → List Transaction → List MessageRecord → ℕ
 bytesBy i [] es = 0
-bytesBy i (d ∷ ds) es = bytesOf (ofTransaction i es) + bytesBy (suc i) ds es
+bytesBy i (d ∷ ds) es = dataBytes (ofTransaction i es) + bytesBy (suc i) ds es
 
 -- Once all opened transactions are finished.
 pub record WhenAllFinished (o : Outcome) (b : Book) : Type 0 where
@@ -213,7 +221,7 @@ pub record WhenAllFinished (o : Outcome) (b : Book) : Type 0 where
 pub record Guarantees (o : Outcome) (b : Book) : Type 0 where
   -- each arrival is answered as the book says, and of the answers to copies of a sealed frame that reached the host exactly one
   -- is "accepted"
-  pub answersMatch : map kindOf (o .answers) ≡ map numberedAs (b .expected)
+  pub answersMatch : map seenAs (o .answers) ≡ map numberedAs (b .expected)
   pub acceptedOnce : (c : ℕ) → frameAt b c .accepted ≡ true → timesAccepted c (b .expected) ≡ 1
   -- the card released only such frames
   pub releasedAgrees : length (b .frames) ≡ releasedCount b + o .unreleasedFrames
@@ -224,7 +232,7 @@ pub record Guarantees (o : Outcome) (b : Book) : Type 0 where
   -- memory, and the sums of the accepted answers
   pub memoryAgrees : o .memory ≡ bookMemory b
   pub messagesAgree : messagesSum (o .answers) ≡ length (acceptedMessages b)
-  pub bytesAgree : bytesSum (o .answers) ≡ bytesOf (acceptedMessages b)
+  pub bytesAgree : bytesSum (o .answers) ≡ dataBytes (acceptedMessages b)
   pub completeAgree : completeSum (o .answers) ≡ completeCount 0 (b .transactions) (acceptedMessages b)
   pub whenAllFinished : ((i : ℕ) → i < length (b .transactions) → finished b i ≡ true) → WhenAllFinished o b
 

@@ -1,7 +1,7 @@
 -- One card and one host, and lists of calls on the two: what a list leaves, and what of it a plain book is shown.
 -- The two ends' steps are a parameter, so that a statement about lists can be made of right and of wrong ends.
 use Prim.Native.Nat.{ℕ}
-use mathlib.Core.Bool.{Bool, true, false, cond, not}
+use mathlib.Core.Bool.{Bool, false, cond, not}
 use mathlib.Core.List.{List, [], _∷_, _++_}
 use lib.Dec.{eqb}
 use lib.ListN.{getD}
@@ -184,7 +184,7 @@ run e w (x ∷ xs) =
 unfoldable pub initial : Implementation → ℕ → ℕ → ℕ → List ℕ → List ℕ → System
 initial e cardId hostId limit slots memory = record {
   card = e .cardOpening cardId hostId limit slots .card;
-  slots = slots;
+  slots = e .cardOpening cardId hostId limit slots .slots;
   host = e .hostOpening hostId cardId .pair;
   memory = memory;
   handOuts = [];

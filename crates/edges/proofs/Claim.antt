@@ -1,7 +1,7 @@
 -- The one claim over the list of edges: each is answered as it says, by computing the definitions.
 -- Assumes nothing.
 use mathlib.Core.Path.{_≡_, refl}
-use mathlib.Core.List.{List, map}
+use mathlib.Core.List.{map}
 use Rattle.seq.specs.Ring.{distance, advance}
 use Rattle.marks.specs.Marks.{mark, withMark, leading, leadingOnes}
 use Rattle.octets.specs.Octets.{little, value, field, inside, written}
@@ -34,9 +34,9 @@ use Rattle.card.specs.Card.{
   withMessage,
   addMessage,
 }
-use Rattle.edges.specs.Edges.{Case, Outcome, added, outcome, cases}
+use Rattle.edges.specs.Edges.{Case, added, result, cases}
 
-pub edges-hold : map (λ (c : Case). outcome (c .edge)) cases ≡ map (λ (c : Case). c .answer) cases
+pub edges-hold : map (λ (c : Case). result (c .edge)) cases ≡ map (λ (c : Case). c .answer) cases
 unfolding distance advance mark withMark leading leadingOnes little value field inside written headOf nextHeader addressed
     follows messageAt messagesFrom readFrame frameHead messageHead laid frameOf needed agrees termsRefusal addressRefusal fills
     refusing closing holding verdictOf verdict after effect takeIn takeAll accepting numbered receiveOf

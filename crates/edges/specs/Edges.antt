@@ -1,5 +1,5 @@
 -- Both sides of each edge of the rules: what an end holds, what comes to it, and what it answers. One list.
-use Prim.Native.Nat.{ℕ, _+_, _*_}
+use Prim.Native.Nat.{ℕ, _*_}
 use mathlib.Core.Bool.{true, cond}
 use mathlib.Core.List.{List, [], _∷_}
 use lib.Dec.{eqb}
@@ -42,15 +42,15 @@ pub data Edge : Type 0 where
 
 -- An accepted frame and one that comes again; a refusal by its number; a distance; header fields; a layout; where an added message's
 -- header is.
-pub data Outcome : Type 0 where
-  taken : Outcome
-  again : Outcome
-  nothing : Outcome
-  refused : ℕ → Outcome
-  far : ℕ → Outcome
-  fields : List ℕ → Outcome
-  layout : Read → Outcome
-  header : ℕ → Outcome
+pub data Result : Type 0 where
+  taken : Result
+  again : Result
+  nothing : Result
+  refused : ℕ → Result
+  far : ℕ → Result
+  fields : List ℕ → Result
+  layout : Read → Result
+  header : ℕ → Result
 
 abbrev pub pairAt : ℕ → ℕ → Pair
 pairAt next lowest = record {
@@ -63,7 +63,7 @@ pairAt next lowest = record {
   table = replicate 32 free;
 }
 
-abbrev pub told : Answer → Outcome
+abbrev pub told : Answer → Result
 told (Accepted n sums) = taken
 told (Again n) = again
 told NoMessages = nothing
@@ -78,15 +78,15 @@ added limit (bytes ∷ earlier) =
     let before = added limit earlier in
     addMessage (before .step .card) (before .slots) 0 0 bytes
 
-abbrev pub placed : Stepped → Outcome
+abbrev pub placed : Stepped → Result
 placed s = cond (eqb (s .refusal) 0) (header (s .card .last)) (refused (s .refusal))
 
-abbrev pub outcome : Edge → Outcome
-outcome (receives next lowest memory f) = told (receiveOf (pairAt next lowest) f (replicate memory 0) .answer)
-outcome (measures next n) = far (distance frameSpace next n)
-outcome (heads f) = fields (destination f ∷ source f ∷ number f ∷ ackStart f ∷ ackCount f ∷ flags f ∷ [])
-outcome (reads f) = layout (readFrame true f)
-outcome (adds limit datas) = placed (added limit datas .step)
+abbrev pub result : Edge → Result
+result (receives next lowest memory f) = told (receiveOf (pairAt next lowest) f (replicate memory 0) .answer)
+result (measures next n) = far (distance frameSpace next n)
+result (heads f) = fields (destination f ∷ source f ∷ number f ∷ ackStart f ∷ ackCount f ∷ flags f ∷ [])
+result (reads f) = layout (readFrame true f)
+result (adds limit datas) = placed (added limit datas .step)
 
 -- ---- the frames
 
@@ -120,9 +120,9 @@ wholeMessage = record {
 
 pub record Case : Type 0 where
   pub edge : Edge
-  pub answer : Outcome
+  pub answer : Result
 
-abbrev pub is : Edge → Outcome → Case
+abbrev pub is : Edge → Result → Case
 is e o = record { edge = e; answer = o }
 
 abbrev pub cases : List Case

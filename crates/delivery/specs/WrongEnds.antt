@@ -1,0 +1,222 @@
+-- Wrong ends: hosts and cards with one fault each, and the buyer's older host. Nothing of this needs to be believed: proofs/Excluded.antt
+-- and proofs/Older.antt show that none of them meets demand 3, but for the card that adds nothing.
+use Prim.Native.Nat.{ℕ, suc}
+use mathlib.Core.Bool.{Bool, cond, _&&_}
+use mathlib.Core.List.{List, []}
+use lib.Dec.{eqb, leb, ltb}
+use Rattle.seq.specs.Ring.{distance, frameSpace, transSpace}
+use Rattle.marks.specs.Marks.{mark}
+use Rattle.octets.specs.Octets.{field}
+use Rattle.wire.specs.Format.{Message}
+use Rattle.wire.specs.Reading.{number, flags, addressed, Read, bad, good, readFrame}
+use Rattle.wire.specs.Writing.{ackFrame}
+use Rattle.host.specs.declared.Pair.{Pair}
+use Rattle.host.specs.declared.Answer.{Answer}
+use Rattle.host.specs.declared.Answer.the-variants.{Accepted, Again, NoMessages, Refused}
+use Rattle.host.specs.declared.Acknowledgement.{Acknowledgement}
+use Rattle.host.specs.Host.{
+  Received,
+  unchanged,
+  refused,
+  tallyOf,
+  takeAll,
+  concluded,
+  receiveOf,
+  rangeOf,
+  acknowledgementOf,
+}
+use Rattle.card.specs.declared.Card.{Card}
+use Rattle.delivery.specs.System.{CardResult, Implementation, handedOver, specified}
+
+-- ---- the rules' ends but for some steps
+
+abbrev pub Receiving : Type 0
+Receiving = Pair → List ℕ → List ℕ → Received
+
+-- Another receiving at the host, another acknowledging, other steps of the card.
+abbrev pub withHost : Receiving → Implementation
+withHost r = record {
+  cardOpening = specified .cardOpening;
+  hostOpening = specified .hostOpening;
+  opening = specified .opening;
+  adding = specified .adding;
+  sealing = specified .sealing;
+  reading = specified .reading;
+  showing = specified .showing;
+  choosing = specified .choosing;
+  receiving = r;
+  acknowledging = specified .acknowledging;
+}
+
+abbrev pub withAcknowledging : (ℕ → ℕ → Answer → ℕ → Acknowledgement) → Implementation
+withAcknowledging a = record {
+  cardOpening = specified .cardOpening;
+  hostOpening = specified .hostOpening;
+  opening = specified .opening;
+  adding = specified .adding;
+  sealing = specified .sealing;
+  reading = specified .reading;
+  showing = specified .showing;
+  choosing = specified .choosing;
+  receiving = specified .receiving;
+  acknowledging = a;
+}
+
+abbrev pub withCardSteps : (ℕ → ℕ → ℕ → List ℕ → CardResult) → (Card → List ℕ → ℕ → ℕ → List ℕ → CardResult)
+    → (Card → List ℕ → CardResult) → (Card → List ℕ → List ℕ → CardResult) → Implementation
+withCardSteps opened added sealed read = record {
+  cardOpening = opened;
+  hostOpening = specified .hostOpening;
+  opening = specified .opening;
+  adding = added;
+  sealing = sealed;
+  reading = read;
+  showing = specified .showing;
+  choosing = specified .choosing;
+  receiving = specified .receiving;
+  acknowledging = specified .acknowledging;
+}
+
+-- ---- hosts that answer or write at will
+
+unfoldable pub refusesAll : Receiving
+refusesAll h f m = unchanged h m (refused 1 0)
+
+unfoldable pub againToAll : Receiving
+againToAll h f m = unchanged h m (Again (record { 0 = number f }))
+
+-- Answers as the rules say, but only its first frame is written.
+unfoldable pub writesFirst : Receiving
+writesFirst h f m =
+    let r = receiveOf h f m in
+    record { pair = r .pair; memory = cond (eqb (h .next .0) 0 && eqb (h .marks) 0) (r .memory) m; answer = r .answer }
+
+-- Takes its first frame, and merely acknowledges the rest.
+unfoldable pub acknowledgesRest : Receiving
+acknowledgesRest h f m =
+    cond (eqb (h .next .0) 0 && eqb (h .marks) 0) (receiveOf h f m) (unchanged h m (Again (record { 0 = number f })))
+
+-- Reports f of the messages, g of the bytes and k of the completed transactions.
+unfoldable pub reporting : (ℕ → ℕ) → (ℕ → ℕ) → (ℕ → ℕ) → Answer → Answer
+reporting f g k (Accepted n s) =
+    Accepted n (record { messages = f (s .messages); bytes = g (s .bytes); completed = k (s .completed) })
+reporting f g k (Again n) = Again n
+reporting f g k NoMessages = NoMessages
+reporting f g k (Refused r) = Refused r
+
+unfoldable pub invents : (ℕ → ℕ) → (ℕ → ℕ) → (ℕ → ℕ) → Receiving
+invents f g k h s m =
+    let r = receiveOf h s m in
+    record { pair = r .pair; memory = r .memory; answer = reporting f g k (r .answer) }
+
+-- ---- hosts with one fault
+
+-- The last place of the transaction window is refused.
+unfoldable pub windowShort : Receiving
+windowShort h f m =
+    cond (ltb (distance transSpace (h .lowest .0) (field f 10 4)) 31) (receiveOf h f m) (unchanged h m (refused 7 0))
+
+-- It does not remember which frames it took.
+unfoldable pub forgets : Receiving
+forgets h f m =
+    let r = receiveOf h f m in
+    record {
+      pair = record {
+        own = h .own;
+        peer = h .peer;
+        next = h .next;
+        marks = h .marks;
+        lowest = r .pair .lowest;
+        closed = r .pair .closed;
+        table = r .pair .table;
+      };
+      memory = r .memory;
+      answer = r .answer;
+    }
+
+-- With a frame received ahead, it takes the frame that fills the hole for an old copy: it answers "again" and throws it away.
+unfoldable pub takesForOld : Receiving
+takesForOld h f m =
+    cond (eqb (h .marks) 0) (receiveOf h f m) (unchanged h m (Again (record { 0 = number f })))
+
+-- It acknowledges the next number along with the one that it took.
+unfoldable pub acksTwo : ℕ → ℕ → Answer → ℕ → Acknowledgement
+acksTwo own peer a num = record {
+  due = ltb 0 (rangeOf a .count);
+  frame = ackFrame peer own num (rangeOf a .start) (suc (rangeOf a .count));
+}
+
+-- It does not acknowledge a frame that comes again.
+unfoldable pub silentOnAgain : ℕ → ℕ → Answer → ℕ → Acknowledgement
+silentOnAgain own peer (Again n) num = acknowledgementOf own peer NoMessages num
+silentOnAgain own peer (Accepted n s) num = acknowledgementOf own peer (Accepted n s) num
+silentOnAgain own peer NoMessages num = acknowledgementOf own peer NoMessages num
+silentOnAgain own peer (Refused r) num = acknowledgementOf own peer (Refused r) num
+
+-- ---- cards
+
+-- It releases what it seals.
+unfoldable pub releasesEarly : Card → List ℕ → CardResult
+releasesEarly c s =
+    let r = specified .sealing c s in
+    let k = r .card in
+    record {
+      refusal = r .refusal;
+      card = record {
+        own = k .own;
+        peer = k .peer;
+        limit = k .limit;
+        used = k .used;
+        last = k .last;
+        window = record {
+          acked = k .window .acked;
+          next = k .window .next;
+          base = k .window .next;
+          sizes = k .window .sizes;
+        };
+        sendings = k .sendings;
+      };
+      slots = r .slots;
+      part = r .part;
+    }
+
+-- It reads acknowledgements and does nothing about them.
+unfoldable pub ignoresAcks : Card → List ℕ → List ℕ → CardResult
+ignoresAcks c s f = handedOver (specified .reading c s f .refusal) c s []
+
+-- Its opening takes its own ID for its peer's.
+unfoldable pub swapsIds : ℕ → ℕ → ℕ → List ℕ → CardResult
+swapsIds own peer limit slots = specified .cardOpening peer own limit slots
+
+-- It refuses every message.
+abbrev pub addsNothing : Implementation
+addsNothing =
+    withCardSteps (specified .cardOpening) (λ c slots t at bytes. handedOver 23 c slots []) (specified .sealing)
+    (specified .reading)
+
+-- ---- the older host
+
+-- Frame numbers as they stand, not by their distance on the ring.
+unfoldable pub behind : ℕ → ℕ → Bool
+behind num next = ltb num next
+
+-- As the rules say (`numbered`), but for the test whether a frame is behind.
+unfoldable pub numberedPlainly : Pair → List ℕ → ℕ → List Message → Received
+numberedPlainly p memory num ms =
+    let d = distance frameSpace (p .next .0) num in
+    cond (behind num (p .next .0)) (unchanged p memory (Again (record { 0 = num })))
+    (cond (leb 64 d) (unchanged p memory (refused 6 0))
+    (cond (mark (p .marks) d) (unchanged p memory (Again (record { 0 = num })))
+    (concluded p memory num (takeAll (tallyOf p memory) 0 ms))))
+
+-- As the rules say (`answered`, `receiveOf`), with that.
+abbrev pub answeredPlainly : Pair → List ℕ → List ℕ → Read → Received
+answeredPlainly p f memory (bad r) = unchanged p memory (refused r 0)
+answeredPlainly p f memory (good ms) =
+    cond (eqb (flags f) 0) (unchanged p memory NoMessages) (numberedPlainly p memory (number f) ms)
+
+unfoldable pub comparesPlainly : Receiving
+comparesPlainly p f memory = answeredPlainly p f memory (readFrame (addressed (p .own) (p .peer) f) f)
+
+abbrev pub older : Implementation
+older = withHost comparesPlainly
