@@ -27,6 +27,7 @@ replay:
 # Times the proved host and replay against plain Rust ones on this machine: docs/PERFORMANCE.md.
 bench:
 	rt check replay
+	rt staticlib capi
 	rt staticlib host_run
 	cd rust && cargo build --offline --profile bench-release -p bench --features proved
 	target/rust/bench-release/bench-host

@@ -14,7 +14,6 @@ use reference::script::{Wild, of_list};
 use reference::settings::number_from_env;
 use reference::simulator::{Profile, come_round, simulate};
 use std::io::{Read, Write};
-use std::process::{Command, Stdio};
 use std::thread;
 
 const STDIN: &[u8] = include_bytes!("../../reference/tests/data/calls/stdin");
@@ -32,14 +31,7 @@ fn seeds() -> std::ops::Range<u64> {
 
 /// What the program writes for this input, handed to it in pieces of this size.
 fn output_in_pieces(input: &[u8], piece: usize) -> String {
-    let path = programs::path("calls");
-    let mut child = Command::new(&path)
-        .stdin(Stdio::piped())
-        .stdout(Stdio::piped())
-        .spawn()
-        .unwrap_or_else(|error| panic!("{}: {error}", path.display()));
-    let mut stdin = child.stdin.take().expect("it is piped");
-    let mut stdout = child.stdout.take().expect("it is piped");
+    let (mut child, mut stdin, mut stdout) = programs::start("calls");
     let mut output = Vec::new();
     thread::scope(|scope| {
         let writer = scope.spawn(move || input.chunks(piece).try_for_each(|p| stdin.write_all(p)));

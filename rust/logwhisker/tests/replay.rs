@@ -16,7 +16,7 @@ use reference::wire::{Message, write_frame};
 use std::fs::{self, File};
 use std::io::{self, Read, Write};
 use std::path::Path;
-use std::process::{Child, Command, ExitStatus, Stdio};
+use std::process::{Child, Command, ExitStatus};
 use std::sync::mpsc::{SyncSender, sync_channel};
 use std::thread::{self, JoinHandle};
 use std::time::{Duration, Instant};
@@ -40,14 +40,7 @@ struct Running {
 
 impl Running {
     fn start() -> Running {
-        let path = programs::path("replay");
-        let mut child = Command::new(&path)
-            .stdin(Stdio::piped())
-            .stdout(Stdio::piped())
-            .spawn()
-            .unwrap_or_else(|error| panic!("{}: {error}", path.display()));
-        let mut stdin = child.stdin.take().expect("it is piped");
-        let mut stdout = child.stdout.take().expect("it is piped");
+        let (child, mut stdin, mut stdout) = programs::start("replay");
         let (input, chunks) = sync_channel::<Vec<u8>>(16);
         let writer = thread::spawn(move || chunks.iter().try_for_each(|c| stdin.write_all(&c)));
         let reader = thread::spawn(move || {

@@ -13,36 +13,10 @@ const FRAMES: usize = 1_000_000;
 /// A host fed from a fresh start: frames, memory; the data bytes it accepted.
 type Run = fn(&[u8], &mut [u8]) -> u64;
 
+/// The proved host, driven like the plain one.
 #[cfg(feature = "proved")]
-mod proved {
-    use super::FRAME;
-
-    mod ffi {
-        unsafe extern "C" {
-            pub fn lw_host_run(
-                frames: *const u8,
-                frames_length: usize,
-                size: usize,
-                memory: *mut u8,
-                memory_length: usize,
-            ) -> u64;
-        }
-    }
-
-    /// The proved host, driven like the plain one.
-    pub fn run(frames: &[u8], memory: &mut [u8]) -> u64 {
-        // SAFETY: both pairs of pointer and length are those of slices, which stay
-        // borrowed during the call, the memory for writing; none of them is kept.
-        unsafe {
-            ffi::lw_host_run(
-                frames.as_ptr(),
-                frames.len(),
-                FRAME,
-                memory.as_mut_ptr(),
-                memory.len(),
-            )
-        }
-    }
+fn run_proved(frames: &[u8], memory: &mut [u8]) -> u64 {
+    logwhisker::host_run(frames, FRAME, memory)
 }
 
 fn run_plain(frames: &[u8], memory: &mut [u8]) -> u64 {
@@ -54,7 +28,7 @@ fn hosts() -> Vec<(&'static str, Run)> {
     vec![
         ("plain", run_plain as Run),
         #[cfg(feature = "proved")]
-        ("proved", proved::run as Run),
+        ("proved", run_proved as Run),
     ]
 }
 
