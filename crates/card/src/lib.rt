@@ -61,7 +61,7 @@ pub fn is_fitting(limit: usize, slots: &[u8]) -> bool
     if limit < 34 {
         return false;
     }
-    if 9000 < limit {
+    if wire::FRAME_MOST < limit {
         return false;
     }
     slots.len() == 64 * limit

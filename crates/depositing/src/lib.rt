@@ -25,7 +25,7 @@ fn write_message(memory: &mut [u8], h: MessageHeader, payload: &[u8], done: bool
 pub fn write_all(f: &[u8], memory: &mut [u8], due: [u64; 6], n: u32)
     ensures { λ _. ⌜ now (memory .exit) ≡ writtenOf (now (f .entry)) due n (now (memory .entry)) ⌝ }
 {
-    if reader::FRAME_MOST < f.len() {
+    if wire::FRAME_MOST < f.len() {
         return;
     }
     let mut at = 10;

@@ -121,7 +121,7 @@ fn one_if(done: bool) -> u32
 pub fn judge_all(low: TransNo, shut: u32, places: [Open; 32], f: &[u8], size: usize) -> Judged
     ensures { λ r. ⌜ r ≡ judgedOf (now (f .entry)) (record { lowest = low .0; closed = shut; table = places }) size ⌝ }
 {
-    if reader::FRAME_MOST < f.len() {
+    if wire::FRAME_MOST < f.len() {
         return refused_at(refusal::FRAME_LONG, 0);
     }
     let mut lowest = low;
@@ -225,7 +225,7 @@ fn none_closing() -> Closing
 pub fn judge_closing(low: TransNo, shut: u32, table: [Open; 32], f: &[u8], size: usize) -> Closing
     ensures { λ r. ⌜ r ≡ closingOf (now (f .entry)) (record { lowest = low .0; closed = shut; table = table }) size ⌝ }
 {
-    if reader::FRAME_MOST < f.len() {
+    if wire::FRAME_MOST < f.len() {
         return none_closing();
     }
     let mut lowest = low;

@@ -96,7 +96,7 @@ fn heading(f: &[u8], ids: bool) -> u8
     if f.len() < 10 {
         return refusal::FRAME_SHORT;
     }
-    if reader::FRAME_MOST < f.len() {
+    if wire::FRAME_MOST < f.len() {
         return refusal::FRAME_LONG;
     }
     if !ids {

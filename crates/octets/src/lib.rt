@@ -5,8 +5,8 @@ ghost use Prim.Native.Nat.{_≤_};
 ghost use lib.ListN.{length, set};
 ghost use Rattle.octets.specs.Octets.{little, inside, written};
 
-// A frame has no more bytes than this: what a copy through a local array has room for.
-const HELD: usize = 9000;
+// How many bytes the local array of a copy has room for: no frame has more.
+const COPIED_MOST: usize = 9000;
 
 // Writes src into memory from at on, and answers whether it did.
 pub fn write(memory: &mut [u8], at: usize, src: &[u8]) -> bool
@@ -30,8 +30,8 @@ fn copy(dst: &mut [u8], src: &[u8])
     requires { ⌜ length (now src) ≡ length (now dst) ⌝ }
     ensures { λ _. ⌜ now (dst .exit) ≡ now (src .entry) ⌝ }
 {
-    if src.len() <= HELD {
-        copy_held(dst, src);
+    if src.len() <= COPIED_MOST {
+        copy_short(dst, src);
     } else {
         bytes::copy(src, dst);
     }
@@ -39,13 +39,13 @@ fn copy(dst: &mut [u8], src: &[u8])
 
 // The same for as much as a frame can carry. By way of the local array the compiler sees that what is read is not what is
 // written, and makes one memmove of the two copies, and no array.
-fn copy_held(dst: &mut [u8], src: &[u8])
+fn copy_short(dst: &mut [u8], src: &[u8])
     requires { ⌜ (length (now src) ≡ length (now dst)) × (length (now src) ≤ 9000) ⌝ }
     ensures { λ _. ⌜ now (dst .exit) ≡ now (src .entry) ⌝ }
 {
-    let mut held = [0u8; 9000];
-    let n = bytes::copy(src, &mut held);
-    bytes::copy(&held[..n], dst);
+    let mut local = [0u8; 9000];
+    let n = bytes::copy(src, &mut local);
+    bytes::copy(&local[..n], dst);
 }
 
 // Stores a byte, and nothing past the end.

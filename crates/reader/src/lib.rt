@@ -11,9 +11,6 @@ ghost use lib.ListN.{length, getD};
 ghost use Rattle.octets.specs.Octets.{field};
 ghost use Rattle.reader.specs.Finding.{headerOf, headAt, foundAt, dataAt};
 
-// Frames longer than this are refused.
-pub const FRAME_MOST: usize = 9000;
-
 // What stands at an offset.
 pub enum Found {
     // A message header or its data passes the frame's end.

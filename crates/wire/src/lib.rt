@@ -7,6 +7,9 @@ ghost use mathlib.Core.Path.{_≡_};
 ghost use Rattle.seq.specs.Ring.{frameSpace, inRange};
 ghost use Rattle.wire.specs.Format.{headerAfter};
 
+// Frames longer than this are refused.
+pub const FRAME_MOST: usize = 9000;
+
 // The header of a frame, as it stands on the wire.
 pub struct FrameHeader {
     pub destination: u16,

@@ -11,9 +11,6 @@ ghost use lib.Seq.{sets};
 ghost use Rattle.wire.specs.Format.{carrying, nextHeader};
 ghost use Rattle.wire.specs.Writing.{frameHead, messageHead, ackFrame, endOf, roomFor, firstMessage, nextMessage};
 
-// The longest frame there is.
-const FRAME_MOST: usize = 9000;
-
 // A frame header as its 10 bytes.
 fn frame_head(to: u16, from: u16, number: FrameNo, start: FrameNo, count: u8, flags: u8) -> [u8; 10]
     ensures { λ r. ⌜ r ≡ frameHead to from (number .0) (start .0) count flags ⌝ }
@@ -95,10 +92,10 @@ fn has_room(slot: &[u8], at: usize, payload: &[u8]) -> bool
     ensures { λ r. ⌜ r ≡ roomFor (now (slot .entry)) (at + 24 + length (now (payload .entry))) ⌝ }
 {
     let n = payload.len();
-    if FRAME_MOST < at + 24 {
+    if wire::FRAME_MOST < at + 24 {
         return false;
     }
-    if FRAME_MOST - at - 24 < n {
+    if wire::FRAME_MOST - at - 24 < n {
         return false;
     }
     at + 24 + n <= slot.len()
@@ -137,7 +134,7 @@ pub fn write_next(
     ensures { λ r. ⌜ r ≡ roomFor (now (slot .entry)) (endOf (nextHeader used) (carrying h (now (payload .entry)))) ⌝ }
     ensures { λ _. ⌜ now (slot .exit) ≡ nextMessage (now (slot .entry)) used last (carrying h (now (payload .entry))) ⌝ }
 {
-    if FRAME_MOST < used {
+    if wire::FRAME_MOST < used {
         return false;
     }
     let at = header_behind(used);

@@ -8,23 +8,18 @@ use Rattle.octets.proofs.little4.Tie as tie
 use Rattle.octets.proofs.little4.Reads as reads
 use Rattle.octets.proofs.little4.Lts as lts
 
--- src/lib.rt:55:9
 cast-t3 : tie.Need-cast-t3
 cast-t3 c = search needs
 
--- src/lib.rt:56:9
 cast-t6 : tie.Need-cast-t6
 cast-t6 c = search needs
 
--- src/lib.rt:57:9
 cast-t10 : tie.Need-cast-t10
 cast-t10 c = search needs
 
--- src/lib.rt:58:9
 cast-t15 : tie.Need-cast-t15
 cast-t15 c = search needs
 
--- src/lib.rt:51:1
 returns : tie.Need-returns
 unfolding little
 returns c = refl

@@ -12,47 +12,37 @@ use Rattle.octets.proofs.write.Reads as reads
 use Rattle.octets.proofs.write.Lts as lts
 use Rattle.octets.proofs.copy.Reads as copy-reads
 
--- src/lib.rt:16:9
 returns : tie.Need-returns
 returns c =
     let a = c .before .before .before .args in
     (sym (inside-false (a .memory .now) (a .at) _ (omega arith)), sym (written-outside (a .memory .now) (a .at) _ (omega arith)))
 
--- src/lib.rt:18:8
 sub-if2 : tie.Need-sub-if2
 sub-if2 c = search needs
 
--- src/lib.rt:19:9
 returns-2 : tie.Need-returns-2
 returns-2 c =
     let a = c .before .before .before .before .args in
     (sym (inside-false (a .memory .now) (a .at) _ (omega arith)), sym (written-outside (a .memory .now) (a .at) _ (omega arith)))
 
--- src/lib.rt:21:15
 add-end : tie.Need-add-end
 add-end c = search needs
 
--- src/lib.rt:22:10
 sub-copy : tie.Need-sub-copy
 sub-copy c = search needs
 
--- src/lib.rt:22:10
 part-copy-start : tie.Need-part-copy-start
 part-copy-start c = search needs
 
--- src/lib.rt:22:10
 part-copy-end : tie.Need-part-copy-end
 part-copy-end c = search needs
 
--- src/lib.rt:22:5
 copy-requires : tie.Need-copy-requires
 copy-requires c κs = search needs
 
--- src/lib.rt:11:1
 same-length : tie.Need-same-length
 same-length c = search needs
 
--- src/lib.rt:11:1
 returns-3 : tie.Need-returns-3
 returns-3 c =
     let a = c .before .before .before .before .before .before .before .before .args in
