@@ -4,7 +4,6 @@
 use seq::FrameNo;
 use seq::TransNo;
 ghost use mathlib.Core.Path.{_≡_};
-ghost use Rattle.seq.specs.Ring.{frameSpace, inRange};
 ghost use Rattle.wire.specs.Format.{headerAfter};
 
 // Frames longer than this are refused.
@@ -18,16 +17,6 @@ pub struct FrameHeader {
     pub ackstart: FrameNo,
     pub ackcount: u8,
     pub flags: u8,
-}
-
-impl FrameHeader {
-    // Whether the header's range of acknowledged numbers has n in it.
-    pub fn acknowledges(self, n: FrameNo) -> bool
-        ensures { λ r. ⌜ r ≡ inRange frameSpace (self .ackstart .0) (self .ackcount) (n .0) ⌝ }
-    {
-        let start = self.ackstart;
-        n.distance(start) < self.ackcount as u16
-    }
 }
 
 // Message headers stand at offsets of the form 10 + 8k: the first of these that is not before end. 0 for an end that no slice
