@@ -4,7 +4,7 @@ use Rattle.seq.specs.Ring.{distance, advance, latest}
 use Rattle.marks.specs.Marks.{mark, withMark, leading, leadingOnes, marksOf}
 use Rattle.octets.specs.Octets.{little, value, field, inside, written}
 use Rattle.wire.specs.Format.{headOf, needed, nextHeader}
-use Rattle.wire.specs.Reading.{addressed, follows, messageAt, messagesFrom, readFrame}
+use Rattle.wire.specs.Reading.{addressed, follows, messageAt, messagesFrom, headingOf, readFrame}
 use Rattle.wire.specs.Writing.{frameHead, messageHead, laid, frameOf, ackFrame, roomFor, firstMessage, nextMessage}
 use Rattle.transactions.specs.Transactions.{
   agrees,
@@ -107,7 +107,7 @@ use Rattle.delivery.proofs.Check.{every, below, apart, noByteTwice, wri
 
 unfoldable pub computing : Unit {0}
 unfolding distance advance latest mark withMark leading leadingOnes marksOf little value field inside written headOf
-    needed nextHeader addressed follows messageAt messagesFrom readFrame frameHead messageHead laid frameOf ackFrame
+    needed nextHeader addressed follows messageAt messagesFrom headingOf readFrame frameHead messageHead laid frameOf ackFrame
     roomFor firstMessage nextMessage agrees termsRefusal addressRefusal fills refusing closing holding verdictOf
     verdict after fresh openedOf effect takeIn takeAll accepting numbered receiveOf acknowledgementOf emptyWindow held
     beforeHeld sealing acknowledgedBy releasing acknowledging noSendings openingRefusal opening takes adding sent

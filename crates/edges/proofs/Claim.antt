@@ -6,7 +6,7 @@ use Rattle.seq.specs.Ring.{distance, advance}
 use Rattle.marks.specs.Marks.{mark, withMark, leading, leadingOnes}
 use Rattle.octets.specs.Octets.{little, value, field, inside, written}
 use Rattle.wire.specs.Format.{headOf, needed, nextHeader}
-use Rattle.wire.specs.Reading.{addressed, follows, messageAt, messagesFrom, readFrame}
+use Rattle.wire.specs.Reading.{addressed, follows, messageAt, messagesFrom, headingOf, readFrame}
 use Rattle.wire.specs.Writing.{frameHead, messageHead, laid, frameOf, roomFor, firstMessage, nextMessage}
 use Rattle.transactions.specs.Transactions.{
   agrees,
@@ -38,7 +38,7 @@ use Rattle.edges.specs.Edges.{Case, added, result, cases}
 
 pub edges-hold : map (λ (c : Case). result (c .edge)) cases ≡ map (λ (c : Case). c .answer) cases
 unfolding distance advance mark withMark leading leadingOnes little value field inside written headOf nextHeader addressed
-    follows messageAt messagesFrom readFrame frameHead messageHead laid frameOf needed agrees termsRefusal addressRefusal fills
+    follows messageAt messagesFrom headingOf readFrame frameHead messageHead laid frameOf needed agrees termsRefusal addressRefusal fills
     refusing closing holding verdictOf verdict after effect takeIn takeAll accepting numbered receiveOf
     emptyWindow noSendings openingRefusal opening takes adding freshCard fits openTransaction addRefusal roomFor firstMessage
     nextMessage messageOf builtSlot builtSlots withMessage addMessage added

@@ -1,19 +1,11 @@
 -- What is said of a frame as a whole, by cases of what the format says of it.
 use Prim.Native.Nat.{ℕ, _+_}
-use mathlib.Core.Bool.{Bool, cond, not}
 use mathlib.Core.List.{List, [], _∷_}
-use lib.Dec.{ltb}
 use lib.ListN.{length}
-use Rattle.wire.specs.Format.{Message, frameMost}
-use Rattle.wire.specs.Reading.{Read, bad, good, flags}
+use Rattle.wire.specs.Format.{Message}
+use Rattle.wire.specs.Reading.{Read, bad, good}
 use Rattle.layout.specs.declared.Layout.{Layout}
 use Rattle.layout.specs.declared.Layout.the-variants.{Refused, Counts}
-
--- Refusals 1 to 4, which the frame's length and header decide; 0 for none.
-unfoldable pub headingOf : Bool → List ℕ → ℕ
-headingOf ids f =
-    cond (ltb (length f) 10) 1
-    (cond (ltb frameMost (length f)) 2 (cond (not ids) 3 (cond (ltb 1 (flags f)) 4 0)))
 
 -- The data bytes of some messages.
 unfoldable pub total : List Message → ℕ

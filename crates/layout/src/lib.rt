@@ -2,11 +2,11 @@
 // Assumes nothing: any bytes get an answer. It promises what specs/Layout.antt says, over the format of the crate wire.
 use reader::Found;
 ghost use mathlib.Core.Path.{_≡_};
-ghost use mathlib.Core.Bool.{Bool, true, false};
+ghost use mathlib.Core.Bool.{true, false};
 ghost use Prim.Native.Nat.{_≤_};
 ghost use lib.ListN.{length};
-ghost use Rattle.wire.specs.Reading.{flags, addressed, readFrame, refusalOf, orPassesEnd, messagesFrom};
-ghost use Rattle.layout.specs.Layout.{headingOf, layoutOf, numberOf, messagesOf, bytesOf, unlessRefused};
+ghost use Rattle.wire.specs.Reading.{flags, addressed, headingOf, readFrame, refusalOf, orPassesEnd, messagesFrom};
+ghost use Rattle.layout.specs.Layout.{layoutOf, numberOf, messagesOf, bytesOf, unlessRefused};
 
 // A frame as a whole: the refusal's number; or its messages and their data bytes.
 pub enum Layout {

@@ -2,41 +2,22 @@
 -- Assumes nothing.
 use mathlib.Core.Path.{_≡_, refl, sym, ap, _∙_}
 use mathlib.Core.Bool.{Bool, true, false, cond}
-use mathlib.Core.List.{List, [], _∷_, _++_, append-assoc, append-nil}
-use mathlib.Core.Option.{Option, none, some}
-use Prim.Native.Nat.{ℕ, zero, suc, _+_, _-_, _^_, _≤_, _<_}
+use mathlib.Core.List.{List, [], _∷_, _++_, append-nil}
+use mathlib.Core.Option.{some}
+use Prim.Native.Nat.{ℕ, zero, suc, _+_, _≤_, _<_}
 use native.Mathlib.Nat.{add-zero}
 use native.Mathlib.Omega.{arith}
 use borrow.Author.Tests.{le-leb, le-ltb, eq-eqb, ne-eqb}
-use lib.Dec.{leb, ltb, eqb}
-use lib.ListN.{length, take, drop, replicate, length-append, length-take}
+use lib.Dec.{leb, eqb}
+use lib.ListN.{length, take, drop, length-append, length-take}
 use lib.Seq.{take-append-seam, drop-append-add}
 use Rattle.octets.specs.Octets.{Bytes, little, value, field}
 use Rattle.octets.proofs.Octets.{value-little, field-behind, field-lt}
 use Rattle.seq.specs.Ring.{frameSpace, transSpace, distance, inRange}
 use Rattle.wire.specs.Format.{Message, nextHeader}
-use Rattle.wire.specs.Reading.{
-  destination,
-  source,
-  number,
-  ackStart,
-  ackCount,
-  flags,
-  addressed,
-  follows,
-  dataEnd,
-  messageAt,
-  prepend,
-  messagesFrom,
-  Read,
-  bad,
-  good,
-  orPassesEnd,
-  readFrame,
-  acknowledges,
-}
+use Rattle.wire.specs.Reading.{destination, source, number, ackStart, ackCount, flags, addressed, follows, dataEnd, messageAt, messagesFrom, good, orPassesEnd, headingOf, readFrame, acknowledges}
 use Rattle.wire.specs.Writing.{frameHead, messageHead, endOf, gapAt, laid, frameOf, ackFrame}
-use Rattle.wire.proofs.Reading.{Headed, unread, headed}
+use Rattle.wire.proofs.Reading.{Headed, unread, headed, read-messages}
 use Rattle.wire.proofs.Format.{
   length-frameHead,
   length-front,
@@ -219,9 +200,9 @@ module _ (to from num : ℕ) (m : Message) (ms : List Message) (f : Fits m) (fs 
 
   pub frame-back : length (frameOf to from num (m ∷ ms)) ≤ 9000
       → readFrame true (frameOf to from num (m ∷ ms)) ≡ good (m ∷ ms)
-  unfolding readFrame sealed
+  unfolding sealed
   frame-back short =
-      rw (le-ltb (length sealed) 10 (omega (arith, long)), le-ltb 9000 (length sealed) short, one, whole)
+      read-messages true sealed (omega (arith, long)) short refl one ∙ ap orPassesEnd whole
     where
       one : flags (frameOf to from num (m ∷ ms)) ≡ 1
       one = frame-flags to from num (m ∷ ms)
@@ -270,5 +251,5 @@ module _ (to from num start count : ℕ) (to-fits : to < frameSpace) (from-fits 
 
   -- it reads as a frame with no messages
   pub ack-back : readFrame true (ackFrame to from num start count) ≡ good []
-  unfolding readFrame ackFrame frameHead field little value
+  unfolding readFrame headingOf ackFrame frameHead field little value
   ack-back = refl

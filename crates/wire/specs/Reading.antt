@@ -79,16 +79,21 @@ abbrev pub orPassesEnd : Option (List Message) → Read
 orPassesEnd none = bad 5
 orPassesEnd (some ms) = good ms
 
--- The refusals in their order; `ids` says whether the frame's two IDs are the expected ones. A clear flag means no
--- messages, whatever bytes stand behind the header.
+-- Refusals 1 to 4 in their order, which the frame's length and header decide; 0 for none. `ids` says whether the frame's two
+-- IDs are the expected ones.
+unfoldable pub headingOf : Bool → List ℕ → ℕ
+headingOf ids f =
+    cond (ltb (length f) 10) 1
+    (cond (ltb frameMost (length f)) 2
+    (cond (not ids) 3
+    (cond (ltb 1 (flags f)) 4 0)))
+
+-- The refusals in their order, 1 to 4 and then 5. A clear flag means no messages, whatever bytes stand behind the header.
 unfoldable pub readFrame : Bool → List ℕ → Read
 readFrame ids f =
-    cond (ltb (length f) 10) (bad 1)
-    (cond (ltb frameMost (length f)) (bad 2)
-    (cond (not ids) (bad 3)
-    (cond (ltb 1 (flags f)) (bad 4)
+    cond (ltb 0 (headingOf ids f)) (bad (headingOf ids f))
     (cond (eqb (flags f) 0) (good [])
-    (orPassesEnd (messagesFrom (length f) f 10))))))
+    (orPassesEnd (messagesFrom (length f) f 10)))
 
 -- The number of the refusal, 0 for none.
 abbrev pub refusalOf : Read → ℕ

@@ -3,7 +3,7 @@
 use mathlib.Core.Path.{sym}
 use native.Mathlib.Omega.{arith}
 use borrow.Author.Tests.{not-true, not-false}
-use Rattle.layout.proofs.Reading.{heading-0, heading-1, heading-2, heading-3, heading-4}
+use Rattle.wire.proofs.Reading.{heading-0, heading-1, heading-2, heading-3, heading-4}
 use borrow.Author.Needs.{needs}
 use Rattle.layout.proofs.heading.Statement.{statement}
 use Rattle.layout.proofs.heading.Tie as tie

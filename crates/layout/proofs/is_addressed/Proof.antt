@@ -1,6 +1,6 @@
 -- `layout::is_addressed`: both IDs, the destination first.
 -- Assumes nothing.
-use mathlib.Core.Path.{_≡_, ap}
+use mathlib.Core.Path.{ap}
 use borrow.Author.Tests.{eq-eqb, ne-eqb}
 use Rattle.wire.specs.declared.FrameHeader.{FrameHeader}
 use Rattle.wire.specs.Reading.{addressed}

@@ -2,9 +2,8 @@
 -- Assumes nothing.
 use mathlib.Core.Path.{sym, ap, _∙_}
 use native.Mathlib.Omega.{arith}
-use Rattle.wire.proofs.Reading.{read-none, read-messages}
+use Rattle.wire.proofs.Reading.{heading-stops, heading-stands, read-none, read-messages}
 use Rattle.layout.specs.Layout.{total, layoutOf}
-use Rattle.layout.proofs.Reading.{heading-stops, heading-stands}
 use borrow.Author.Needs.{needs}
 use Rattle.layout.proofs.layout_where.Statement.{statement}
 use Rattle.layout.proofs.layout_where.Tie as tie

@@ -8,9 +8,8 @@ use native.Mathlib.Omega.{arith}
 use Rattle.seq.specs.Ring.{distance, frameSpace}
 use Rattle.wire.specs.declared.FrameHeader.{FrameHeader}
 use Rattle.wire.specs.Reading.{addressed}
-use Rattle.wire.proofs.Reading.{read-none}
+use Rattle.wire.proofs.Reading.{Framed, heading-stops, heading-stands, read-none}
 use Rattle.reader.specs.Finding.{headerOf}
-use Rattle.layout.proofs.Reading.{Framed, heading-stops, heading-stands}
 use Rattle.host.specs.declared.Pair.{Pair}
 use Rattle.host.specs.Host.{Received, steppedOf}
 use Rattle.reception.specs.Reception.{Awaited}
