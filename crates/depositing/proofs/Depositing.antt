@@ -11,7 +11,7 @@ use borrow.Author.Tests.{le-leb, lt-leb, lt-ltb, le-ltb}
 use lib.ListN.{length, getD}
 use Rattle.marks.specs.Marks.{mark}
 use Rattle.wire.specs.declared.MessageHeader.{MessageHeader}
-use Rattle.wire.specs.Format.{Message, carrying, nextHeader, frameMost}
+use Rattle.wire.specs.Format.{Message, carrying, headOf, nextHeader, frameMost}
 use Rattle.wire.specs.Reading.{dataEnd, messageAt}
 use Rattle.reader.specs.declared.Found.the-variants.{PastEnd}
 use Rattle.reader.specs.Finding.{headAt, foundAt, dataAt}
@@ -74,7 +74,7 @@ written-alike f due due′ (suc n) at i memory same =
 
 pub carrying-is : {f : List ℕ} {at : ℕ} {h : MessageHeader} {len : ℕ} {more : Bool} {next : ℕ} → IsWhole f at h len more next
     → carrying h (dataAt f at) ≡ messageAt f at
-unfolding carrying messageAt headAt
+unfolding carrying headOf messageAt headAt
 carrying-is {f} {at} w = rw (w .header-is, ← data-whole f at (w .inside-frame))
 
 pub due-is : (due : List ℕ) (i : ℕ) → mark (getD due (i / 64) 0) (i % 64) ≡ dueAt due i

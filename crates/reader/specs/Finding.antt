@@ -7,7 +7,7 @@ use lib.ListN.{length}
 use Rattle.octets.specs.Octets.{field}
 use Rattle.wire.specs.declared.FrameHeader.{FrameHeader}
 use Rattle.wire.specs.declared.MessageHeader.{MessageHeader}
-use Rattle.wire.specs.Format.{nextHeader}
+use Rattle.wire.specs.Format.{headOf, nextHeader}
 use Rattle.wire.specs.Reading.{
   destination,
   source,
@@ -35,13 +35,7 @@ headerOf f = record {
 
 -- The header of the message at an offset.
 unfoldable pub headAt : List ℕ → ℕ → MessageHeader
-headAt f at = record {
-  trans = record { 0 = field f at 4 };
-  target = field f (at + 4) 4;
-  value = field f (at + 8) 4;
-  count = field f (at + 12) 2;
-  at = field f (at + 16) 4;
-}
+headAt f at = headOf (messageAt f at)
 
 -- That message: its header, the length of its data, whether another follows and where that one's header would stand; or that it
 -- passes the frame's end.

@@ -1,5 +1,7 @@
 -- `reader::header_in`: each field as the definition reads it.
 -- Assumes nothing.
+use Rattle.wire.specs.Format.{headOf}
+use Rattle.wire.specs.Reading.{messageAt}
 use Rattle.reader.specs.Finding.{headAt}
 use borrow.Author.Needs.{needs}
 use Rattle.reader.proofs.header_in.Statement.{statement}
@@ -37,7 +39,7 @@ u32-in-requires-4 : tie.Need-u32-in-requires-4
 u32-in-requires-4 c κs = search needs
 
 returns : tie.Need-returns
-unfolding headAt
+unfolding headAt headOf messageAt
 returns c =
     rw (
       c .before .before .before .before .u32-in .ensures,
