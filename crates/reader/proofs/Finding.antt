@@ -1,22 +1,20 @@
 -- What the message at an offset tells, and the messages from there on one step at a time.
 -- Assumes nothing.
-use mathlib.Core.Path.{_≡_, refl, sym, _∙_, ap}
+use mathlib.Core.Path.{_≡_, refl, sym, _∙_}
 use mathlib.Core.Bool.{Bool, true, false}
 use mathlib.Core.List.{List, [], _∷_}
 use mathlib.Core.Option.{none, some}
-use Prim.Native.Nat.{ℕ, zero, suc, _+_, _-_, _≤_, _<_}
+use Prim.Native.Nat.{ℕ, zero, suc, _+_, _≤_, _<_}
 use native.Mathlib.Decide.{decLe}
 use native.Mathlib.Omega.{arith}
 use borrow.Author.Tests.{le-leb, lt-leb}
-use lib.Dec.{leb}
 use lib.ListN.{length, take, drop, length-drop}
 use lib.Seq.{length-take-le}
 use Rattle.octets.specs.Octets.{field}
 use Rattle.wire.specs.declared.MessageHeader.{MessageHeader}
-use Rattle.wire.specs.Format.{Message, nextHeader}
+use Rattle.wire.specs.Format.{nextHeader}
 use Rattle.wire.specs.Reading.{follows, dataEnd, messageAt, prepend, messagesFrom}
 use Rattle.wire.proofs.Format.{next-after, next-near}
-use Rattle.reader.specs.declared.Found.{Found}
 use Rattle.reader.specs.declared.Found.the-variants.{PastEnd, Whole}
 use Rattle.reader.specs.Finding.{headAt, foundAt, dataAt}
 

@@ -5,9 +5,8 @@ use seq::TransNo;
 use wire::FrameHeader;
 use wire::MessageHeader;
 ghost use mathlib.Core.Path.{_≡_};
-ghost use mathlib.Core.Bool.{Bool, true, false};
 ghost use Prim.Native.Nat.{_+_, _≤_, _<_};
-ghost use lib.ListN.{length, getD};
+ghost use lib.ListN.{length};
 ghost use Rattle.octets.specs.Octets.{field};
 ghost use Rattle.reader.specs.Finding.{headerOf, headAt, foundAt, dataAt};
 

@@ -1,12 +1,11 @@
 -- Which class a number has, range by range.
 -- Assumes nothing.
 use mathlib.Core.Path.{_≡_, refl}
-use mathlib.Core.Bool.{Bool, true, false, cond, _&&_}
+use mathlib.Core.Bool.{Bool, true, false, _&&_}
 use Prim.Native.Nat.{ℕ, _<_, _≤_}
 use native.Mathlib.Omega.{arith}
 use borrow.Author.Tests.{le-leb, lt-leb}
 use lib.Dec.{leb}
-use Rattle.refusal.specs.declared.Class.{Class}
 use Rattle.refusal.specs.declared.Class.the-variants.{Wire, Message, Caller, Card, Other}
 use Rattle.refusal.specs.Class.{between, classOf}
 

@@ -3,8 +3,8 @@
 -- Assumes nothing.
 use mathlib.Core.Path.{_≡_, refl, sym, ap, _∙_}
 use mathlib.Core.Bool.{true, false, and-true, and-false, and-eq-true-iff}
-use mathlib.Core.List.{List, [], _∷_, _++_, append-assoc, append-nil}
-use Prim.Native.Nat.{ℕ, zero, suc, _+_, _-_, _≤_, _<_}
+use mathlib.Core.List.{List, [], _∷_, _++_, append-assoc}
+use Prim.Native.Nat.{ℕ, _+_, _≤_, _<_}
 use native.Mathlib.Nat.{zero-add, suc-add}
 use native.Mathlib.Omega.{arith}
 use borrow.Author.Tests.{le-leb, lt-leb, leb-true}
@@ -25,20 +25,7 @@ use Rattle.wire.specs.Writing.{
   firstMessage,
   nextMessage,
 }
-use Rattle.wire.proofs.Format.{
-  next-after,
-  length-gap,
-  length-frameHead,
-  length-messageHead,
-  length-front,
-  length-last,
-  length-laid-one,
-  length-laid-more,
-  passed,
-  length-passed,
-  laid-passed,
-  length-frame,
-}
+use Rattle.wire.proofs.Format.{next-after, length-gap, length-frameHead, length-last, length-laid-one, length-laid-more, passed, length-passed, laid-passed, length-frame}
 
 -- ---- one message more in what is laid out
 

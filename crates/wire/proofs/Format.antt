@@ -5,7 +5,7 @@ use mathlib.Core.List.{List, [], _∷_, _++_, append-assoc}
 use Prim.Native.Nat.{ℕ, zero, suc, _+_, _-_, _*_, _/_, _^_, _≤_, _<_}
 use native.Mathlib.Omega.{arith}
 use borrow.Author.Tests.{lt-ltb, le-ltb, ne-eqb}
-use lib.ListN.{length, replicate, length-append, length-replicate}
+use lib.ListN.{length, length-append, length-replicate}
 use Rattle.octets.specs.Octets.{little}
 use Rattle.wire.specs.Format.{Message, needed, nextHeader, headerAfter}
 use Rattle.wire.specs.Writing.{frameHead, messageHead, endOf, gapAt, laid, frameOf}

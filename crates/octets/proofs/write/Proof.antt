@@ -1,6 +1,6 @@
 -- `octets::write`: where the bytes do not fit, nothing changes; where they do, the part that comes back is the write.
 -- Assumes nothing.
-use mathlib.Core.Path.{_≡_, sym, _∙_, ap}
+use mathlib.Core.Path.{sym}
 use Prim.Native.Nat.{_+_, _-_, _≤_}
 use native.Mathlib.Omega.{arith}
 use lib.ListN.{length}

@@ -3,7 +3,7 @@
 use mathlib.Core.Path.{_≡_, sym, _∙_}
 use native.Mathlib.Omega.{arith}
 use Rattle.wire.specs.Format.{nextHeader}
-use Rattle.wire.proofs.Format.{next-first, next-form, header-after, no-header-after}
+use Rattle.wire.proofs.Format.{header-after, no-header-after}
 use borrow.Author.Needs.{needs}
 use Rattle.wire.proofs.next_header.Statement.{statement}
 use Rattle.wire.proofs.next_header.Tie as tie
