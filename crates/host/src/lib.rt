@@ -114,19 +114,19 @@ pub fn acknowledge(own: u16, peer: u16, answer: Answer, number: FrameNo) -> Ackn
     match answer {
         Answer::Accepted(n, _) => Acknowledgement {
             due: true,
-            frame: writer::ack_frame(peer, own, number, n, 1),
+            frame: headers::ack_frame(peer, own, number, n, 1),
         },
         Answer::Again(n) => Acknowledgement {
             due: true,
-            frame: writer::ack_frame(peer, own, number, n, 1),
+            frame: headers::ack_frame(peer, own, number, n, 1),
         },
         Answer::NoMessages => Acknowledgement {
             due: false,
-            frame: writer::ack_frame(peer, own, number, FrameNo(0), 0),
+            frame: headers::ack_frame(peer, own, number, FrameNo(0), 0),
         },
         Answer::Refused(_) => Acknowledgement {
             due: false,
-            frame: writer::ack_frame(peer, own, number, FrameNo(0), 0),
+            frame: headers::ack_frame(peer, own, number, FrameNo(0), 0),
         },
     }
 }

@@ -3,17 +3,23 @@
 use mathlib.Core.Path.{_≡_, refl, sym, _∙_, ap}
 use mathlib.Core.Bool.{Bool, true, false, cond}
 use mathlib.Core.List.{List, [], _∷_, _++_, append-assoc, append-nil}
-use Prim.Native.Nat.{ℕ, zero, suc, _+_, _*_, _/_, _^_, _≤_, _<_}
+use Prim.Native.Nat.{ℕ, zero, suc, _+_, _*_, _/_, _%_, _^_, _≤_, _<_}
 use native.Mathlib.Nat.{add-zero, add-suc, suc-add, pow-succ'}
 use native.Mathlib.Numerals.{add-one, towards-numerals}
 use native.Mathlib.Omega.{arith}
 use borrow.Author.Tests.{le-leb, lt-leb, leb-true}
 use borrow.Rule.Slice.PartMut.{putMid}
+use mir.Syntax.{w8}
+use mir.Val.{Fits}
 use lib.ListN.{length, take, drop, getD, set, length-append, drop-of-length-le}
 use lib.Seq.{sets, sets-eq, length-sets, length-take-le, take-at, drop-at, drop-append-add, drop-drop, drop-nil, take-nil, take-length, take-append-seam}
 use Rattle.octets.specs.Octets.{Bytes, little, value, field, inside, written}
 
 -- ---- numbers
+
+-- a remainder by 256 is a byte
+pub byte-fits : (x : ℕ) → Fits w8 (x % 256)
+byte-fits x = omega arith
 
 pub length-little : (k x : ℕ) → length (little k x) ≡ k
 unfolding little

@@ -103,10 +103,6 @@ pub room-slot : (slot : List ℕ) (size : ℕ) → roomFor slot size ≡ true �
 unfolding roomFor
 room-slot slot size e = leb-true size (length slot) (and-eq-true-iff (leb size (length slot)) (leb size frameMost) .0 e .0)
 
-pub room-frame : (slot : List ℕ) (size : ℕ) → roomFor slot size ≡ true → size ≤ frameMost
-unfolding roomFor
-room-frame slot size e = leb-true size frameMost (and-eq-true-iff (leb size (length slot)) (leb size frameMost) .0 e .1)
-
 -- within a frame's length only the slot decides; past it there is no room
 pub room-by-slot : (slot : List ℕ) (size : ℕ) → size ≤ frameMost → leb size (length slot) ≡ roomFor slot size
 unfolding roomFor

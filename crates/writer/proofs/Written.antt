@@ -42,10 +42,10 @@ unfolding firstMessage
 first-refused s to from num m room = rw room
 
 -- a later one: the trailing byte before it, the gap, then the message
-pub zeros-front : (n k : ℕ) → k ≤ n → take k (replicate n 0) ≡ replicate {A = ℕ} k 0
-zeros-front n zero h = refl
-zeros-front zero (suc k) h = absurd (omega arith)
-zeros-front (suc n) (suc k) h = ap {B = List ℕ} (λ r. 0 ∷ r) (zeros-front n k (omega arith))
+pub front-alike : (x n k : ℕ) → k ≤ n → take k (replicate n x) ≡ replicate k x
+front-alike x n zero h = refl
+front-alike x zero (suc k) h = absurd (omega arith)
+front-alike x (suc n) (suc k) h = ap (λ (r : List ℕ). x ∷ r) (front-alike x n k (omega arith))
 
 module _ (s s₁ s₂ s₃ : List ℕ) (used last : ℕ) (m : Message) (gap : List ℕ) (room : roomFor s (endOf (nextHeader used) m) ≡ true) where
   pub next-put : gap ≡ gapAt used → s₁ ≡ set s (last + 23) 1 → s₂ ≡ written s₁ used gap

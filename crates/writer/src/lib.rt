@@ -1,6 +1,5 @@
-// Writing frames: an acknowledgement frame by value, and a frame with messages built inside a lent slot, one message a call.
-// Assumes nothing: a message that has no room is not written at all. It promises every byte of the slot, as
-// wire/specs/Writing.antt says.
+// Building a frame with messages inside a lent slot, one message a call. Assumes nothing: a message that has no room is not
+// written at all. It promises every byte of the slot, as wire/specs/Writing.antt says.
 use seq::FrameNo;
 use wire::MessageHeader;
 ghost use mathlib.Core.Path.{_≡_};
@@ -9,79 +8,14 @@ ghost use Prim.Native.Nat.{_+_, _≤_, _<_};
 ghost use lib.ListN.{length, set};
 ghost use lib.Seq.{sets};
 ghost use Rattle.wire.specs.Format.{carrying, nextHeader};
-ghost use Rattle.wire.specs.Writing.{frameHead, messageHead, ackFrame, endOf, roomFor, firstMessage, nextMessage};
-
-// A frame header as its 10 bytes.
-fn frame_head(to: u16, from: u16, number: FrameNo, start: FrameNo, count: u8, flags: u8) -> [u8; 10]
-    ensures { λ r. ⌜ r ≡ frameHead to from (number .0) (start .0) count flags ⌝ }
-{
-    [
-        (to % 256) as u8,
-        (to / 256 % 256) as u8,
-        (from % 256) as u8,
-        (from / 256 % 256) as u8,
-        (number.0 % 256) as u8,
-        (number.0 / 256 % 256) as u8,
-        (start.0 % 256) as u8,
-        (start.0 / 256 % 256) as u8,
-        count,
-        flags,
-    ]
-}
-
-// An acknowledgement of count numbers from start on, from an end whose next message frame will have this number: the number
-// is not used up.
-pub fn ack_frame(to: u16, from: u16, number: FrameNo, start: FrameNo, count: u8) -> [u8; 10]
-    ensures { λ r. ⌜ r ≡ ackFrame to from (number .0) (start .0) count ⌝ }
-{
-    if count == 0 {
-        return frame_head(to, from, number, FrameNo(0), count, 0);
-    }
-    frame_head(to, from, number, start, count, 0)
-}
-
-// The header of a frame's last message, as its 24 bytes.
-fn message_head(h: MessageHeader, payload: &[u8]) -> [u8; 24]
-    requires { ⌜ length (now payload) < 65536 ⌝ }
-    ensures { λ r. ⌜ r ≡ messageHead (carrying h (now (payload .entry))) 0 ⌝ }
-{
-    let t = h.trans.0;
-    let len = payload.len() as u16;
-    [
-        (t % 256) as u8,
-        (t / 256 % 256) as u8,
-        (t / 256 / 256 % 256) as u8,
-        (t / 256 / 256 / 256 % 256) as u8,
-        (h.target % 256) as u8,
-        (h.target / 256 % 256) as u8,
-        (h.target / 256 / 256 % 256) as u8,
-        (h.target / 256 / 256 / 256 % 256) as u8,
-        (h.value % 256) as u8,
-        (h.value / 256 % 256) as u8,
-        (h.value / 256 / 256 % 256) as u8,
-        (h.value / 256 / 256 / 256 % 256) as u8,
-        (h.count % 256) as u8,
-        (h.count / 256 % 256) as u8,
-        0,
-        0,
-        (h.at % 256) as u8,
-        (h.at / 256 % 256) as u8,
-        (h.at / 256 / 256 % 256) as u8,
-        (h.at / 256 / 256 / 256 % 256) as u8,
-        (len % 256) as u8,
-        (len / 256 % 256) as u8,
-        0,
-        0,
-    ]
-}
+ghost use Rattle.wire.specs.Writing.{messageHead, endOf, roomFor, firstMessage, nextMessage};
 
 // A message at an offset where it lies in the slot: header and data.
 fn put_message(slot: &mut [u8], at: usize, h: MessageHeader, payload: &[u8])
-    requires { ⌜ length (now payload) < 65536 ⌝ }
     requires { ⌜ at + 24 + length (now payload) ≤ length (now slot) ⌝ }
     ensures { λ _. ⌜ now (slot .exit) ≡ sets (now (slot .entry)) at (messageHead (carrying h (now (payload .entry))) 0 ++ now (payload .entry)) ⌝ }
 {
-    let head = message_head(h, payload);
+    let head = headers::message_head(h, payload);
     octets::write(slot, at, &head);
     octets::write(slot, at + 24, payload);
 }
@@ -116,7 +50,7 @@ pub fn write_first(
     if !has_room(slot, 10, payload) {
         return false;
     }
-    let head = frame_head(to, from, number, FrameNo(0), 0, 1);
+    let head = headers::frame_head(to, from, number, FrameNo(0), 0, 1);
     octets::write(slot, 0, &head);
     put_message(slot, 10, h, payload);
     true

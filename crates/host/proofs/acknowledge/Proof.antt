@@ -6,7 +6,7 @@ use Rattle.host.proofs.acknowledge.Statement.{statement}
 use Rattle.host.proofs.acknowledge.Tie as tie
 use Rattle.host.proofs.acknowledge.Reads as reads
 use Rattle.host.proofs.acknowledge.Lts as lts
-use Rattle.writer.proofs.ack_frame.Reads as ack-frame-reads
+use Rattle.headers.proofs.ack_frame.Reads as ack-frame-reads
 
 enum-known-answer : tie.Need-enum-known-answer
 enum-known-answer c = search needs

@@ -8,7 +8,7 @@ use Rattle.writer.proofs.put_message.Tie as tie
 use Rattle.writer.proofs.put_message.Reads as reads
 use Rattle.writer.proofs.put_message.Lts as lts
 use Rattle.octets.proofs.write.Reads as write-reads
-use Rattle.writer.proofs.message_head.Reads as message-head-reads
+use Rattle.headers.proofs.message_head.Reads as message-head-reads
 
 message-head-requires : tie.Need-message-head-requires
 message-head-requires c κs = search needs
@@ -37,7 +37,7 @@ returns c =
     let s = c12 in
     let a = s .args in
     message-put (a .slot .now) _ _ (a .at) (carrying (a .h) (a .payload .now)) _
-    (c9 .message-head .ensures) (c6 .write .ensures .1) (c .before .before .write2 .ensures .1) (s .pre .1)
+    (c9 .message-head .ensures) (c6 .write .ensures .1) (c .before .before .write2 .ensures .1) (s .pre)
 
 pub put-message-spec : {M : Type 1} → statement M
 put-message-spec =

@@ -1,6 +1,6 @@
 -- `writer::set_follows`: a byte past the slot's end is none.
 -- Assumes nothing.
-use mathlib.Core.Path.{sym}
+use mathlib.Core.Path.{refl, sym}
 use Prim.Native.Nat.{_+_}
 use native.Mathlib.Omega.{arith}
 use lib.Seq.{set-out}
@@ -29,7 +29,7 @@ same-length : tie.Need-same-length
 same-length c = search needs
 
 returns-3 : tie.Need-returns-3
-returns-3 c = search needs
+returns-3 c = refl
 
 pub set-follows-spec : {M : Type 1} → statement M
 set-follows-spec =

@@ -8,7 +8,7 @@ use borrow.Author.Tests.{not-true, not-false}
 use lib.ListN.{length}
 use Rattle.wire.specs.Format.{carrying}
 use Rattle.wire.specs.Writing.{endOf, roomFor}
-use Rattle.wire.proofs.Building.{room-slot, room-frame}
+use Rattle.wire.proofs.Building.{room-slot}
 use Rattle.writer.proofs.Written.{first-put, first-refused}
 use borrow.Author.Needs.{needs}
 use Rattle.writer.proofs.write_first.Statement.{statement}
@@ -16,7 +16,7 @@ use Rattle.writer.proofs.write_first.Tie as tie
 use Rattle.writer.proofs.write_first.Reads as reads
 use Rattle.writer.proofs.write_first.Lts as lts
 use Rattle.octets.proofs.write.Reads as write-reads
-use Rattle.writer.proofs.frame_head.Reads as frame-head-reads
+use Rattle.headers.proofs.frame_head.Reads as frame-head-reads
 use Rattle.writer.proofs.has_room.Reads as has-room-reads
 use Rattle.writer.proofs.put_message.Reads as put-message-reads
 
@@ -52,8 +52,7 @@ put-message-requires c κs =
     let n = length (a .payload .now) in
     let room : roomFor (a .slot .now) (34 + n) ≡ true = sym (c8 .has-room .ensures) ∙ not-false _ (c7 .if1 .left) in
     let fits : 34 + n ≤ length (a .slot .now) = room-slot (a .slot .now) (34 + n) room in
-    let short : 34 + n ≤ 9000 = room-frame (a .slot .now) (34 + n) room in
-    (omega arith, omega (arith, c .before .before .before .write .kept .0))
+    omega (arith, c .before .before .before .write .kept .0)
 
 same-length-2 : tie.Need-same-length-2
 same-length-2 c = search needs

@@ -9,8 +9,8 @@ use lib.ListN.{length, take, replicate, length-replicate}
 use Rattle.wire.specs.Format.{carrying, nextHeader}
 use Rattle.wire.specs.Writing.{endOf, gapAt, roomFor}
 use Rattle.wire.proofs.Format.{next-after}
-use Rattle.wire.proofs.Building.{room-slot, room-frame, no-room}
-use Rattle.writer.proofs.Written.{zeros-front, next-put, next-refused}
+use Rattle.wire.proofs.Building.{room-slot, no-room}
+use Rattle.writer.proofs.Written.{front-alike, next-put, next-refused}
 use borrow.Author.Needs.{needs}
 use Rattle.writer.proofs.write_next.Statement.{statement}
 use Rattle.writer.proofs.write_next.Tie as tie
@@ -65,7 +65,7 @@ slice-aggregate-write c =
     let c9 = c .before .before .before .before .before .before .before .before .before in
     let c13 = c9 .before .before .before .before in
     let k = c9 .header-behind .result - c13 .args .used in
-    sym (ap length {y = replicate k 0} (zeros-front 10 k (omega arith)) ∙ length-replicate k 0)
+    sym (ap length {y = replicate k _} (front-alike _ 10 k (omega arith)) ∙ length-replicate k _)
 
 write-requires : tie.Need-write-requires
 write-requires c κs = search needs
@@ -81,8 +81,7 @@ put-message-requires c κs =
     let size = c13 .header-behind .result + 24 + length (a .payload .now) in
     let room : roomFor (a .slot .now) size ≡ true = sym (c11 .has-room .ensures) ∙ not-false _ (c10 .if2 .left) in
     let fits : size ≤ length (a .slot .now) = room-slot (a .slot .now) size room in
-    let short : size ≤ 9000 = room-frame (a .slot .now) size room in
-    (omega arith, omega (arith, c .before .before .before .write .kept .0, c8 .set-follows .kept .0))
+    omega (arith, c .before .before .before .write .kept .0, c8 .set-follows .kept .0)
 
 same-length-2 : tie.Need-same-length-2
 same-length-2 c = search needs
@@ -103,7 +102,7 @@ returns-3 c =
     let room : roomFor (a .slot .now) (endOf (nextHeader (a .used)) m) ≡ true =
     sym (rw next at (c14 .has-room .ensures)) ∙ not-false _ (c13 .if2 .left) in
     let gap : take k (replicate 10 0) ≡ gapAt (a .used) =
-    zeros-front 10 k (omega arith) ∙ ap (λ (n : ℕ). replicate (n - a .used) 0) next in (
+    front-alike 0 10 k (omega arith) ∙ ap (λ (n : ℕ). replicate (n - a .used) 0) next in (
       sym room,
       next-put (a .slot .now) _ _ _ (a .used) (a .last) m _ room gap
           (c11 .set-follows .ensures) (c6 .write .ensures .1) (rw next at (c .before .before .put-message .ensures)),

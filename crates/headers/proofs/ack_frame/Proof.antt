@@ -1,14 +1,14 @@
--- `writer::ack_frame`: the start is 0 where nothing is acknowledged.
+-- `headers::ack_frame`: the start is 0 where nothing is acknowledged.
 -- Assumes nothing.
 use mathlib.Core.Path.{_∙_}
 use borrow.Author.Tests.{eq-eqb, ne-eqb}
 use Rattle.wire.specs.Writing.{ackFrame}
 use borrow.Author.Needs.{needs}
-use Rattle.writer.proofs.ack_frame.Statement.{statement}
-use Rattle.writer.proofs.ack_frame.Tie as tie
-use Rattle.writer.proofs.ack_frame.Reads as reads
-use Rattle.writer.proofs.ack_frame.Lts as lts
-use Rattle.writer.proofs.frame_head.Reads as frame-head-reads
+use Rattle.headers.proofs.ack_frame.Statement.{statement}
+use Rattle.headers.proofs.ack_frame.Tie as tie
+use Rattle.headers.proofs.ack_frame.Reads as reads
+use Rattle.headers.proofs.ack_frame.Lts as lts
+use Rattle.headers.proofs.frame_head.Reads as frame-head-reads
 
 frame-head-requires : tie.Need-frame-head-requires
 frame-head-requires c κs = search needs
