@@ -9,12 +9,12 @@ use seq::FrameNo;
 use seq::TransNo;
 use wire::MessageHeader;
 ghost use mathlib.Core.Path.{_≡_};
-ghost use mathlib.Core.Bool.{Bool, true, false, cond, not, _&&_};
+ghost use mathlib.Core.Bool.{Bool, true, false, cond, not};
 ghost use Prim.Native.Nat.{_+_, _≤_};
 ghost use mathlib.Core.List.{[]};
-ghost use lib.Dec.{eqb, ltb};
+ghost use lib.Dec.{eqb};
 ghost use lib.ListN.{length};
-ghost use Rattle.wire.specs.Format.{nextHeader, carrying, headOf};
+ghost use Rattle.wire.specs.Format.{carrying, headOf};
 ghost use Rattle.wire.specs.Writing.{firstMessage, nextMessage};
 ghost use Rattle.card.specs.Card.{
   fits,
@@ -22,7 +22,6 @@ ghost use Rattle.card.specs.Card.{
   headerPlace,
   messageOf,
   builtSlots,
-  addRefusal,
   withMessage,
   addMessage,
   sealFrame,
@@ -53,68 +52,6 @@ pub fn open_transaction(card: Card, count: u16, target: u32, value: u32) -> Tran
 }
 
 // ---- adding a message
-
-// Where the header of the next message goes.
-fn header_place(used: u16) -> usize
-    ensures { λ r. ⌜ (r ≡ nextHeader used) × (r ≤ 65552) ⌝ }
-{
-    wire::next_header(used as usize)
-}
-
-// Whether there is data for the one message of a transaction of count 0.
-fn is_data_for_bare(count: u16, payload: &[u8]) -> bool
-    ensures { λ r. ⌜ r ≡ (eqb count 0 && ltb 0 (length (now (payload .entry)))) ⌝ }
-{
-    if count != 0 {
-        return false;
-    }
-    0 < payload.len()
-}
-
-// Whether a message with this data would end past the limit.
-fn is_past_limit(limit: u16, used: u16, payload: &[u8]) -> bool
-    ensures { λ r. ⌜ r ≡ ltb limit (nextHeader used + 24 + length (now (payload .entry))) ⌝ }
-{
-    let most = limit as usize;
-    let start = header_place(used) + 24;
-    if most < start {
-        return true;
-    }
-    most - start < payload.len()
-}
-
-// The refusals of adding in their order: the first that holds, and 0 for none.
-fn first_refusal(fitting: bool, taking: bool, bare: bool, full: bool, past: bool) -> u8
-    ensures { λ r. ⌜ r ≡ cond (not fitting) 26 (cond (not taking) 23 (cond bare 27 (cond full 21 (cond past 22 0)))) ⌝ }
-{
-    if !fitting {
-        return refusal::BAD_SLOTS;
-    }
-    if !taking {
-        return refusal::TRANS_UNKNOWN;
-    }
-    if bare {
-        return refusal::ADDING_TO_BARE;
-    }
-    if full {
-        return refusal::FRAME_WINDOW_FULL;
-    }
-    if past {
-        return refusal::FRAME_FULL;
-    }
-    0
-}
-
-fn add_refusal(card: Card, slots: &[u8], t: TransNo, payload: &[u8]) -> u8
-    ensures { λ r. ⌜ r ≡ addRefusal card (now (slots .entry)) (t .0) (now (payload .entry)) ⌝ }
-{
-    let fitting = card::is_fitting(card.limit as usize, slots);
-    let taking = card.sendings.takes(t);
-    let bare = is_data_for_bare(card.sendings.sending(t).count, payload);
-    let past = is_past_limit(card.limit, card.used, payload);
-    let full = 64 <= card.window.unreleased();
-    first_refusal(fitting, taking, bare, full, past)
-}
 
 // The header of a message of transaction t with data for an address.
 fn header_of(card: Card, t: TransNo, at: u32) -> MessageHeader
@@ -178,7 +115,7 @@ fn count_message(card: Card, t: TransNo, payload: &[u8]) -> Stepped
     requires { ⌜ headerPlace card + 24 + length (now payload) ≤ 9000 ⌝ }
     ensures { λ r. ⌜ r ≡ record { card = withMessage card (t .0) (now (payload .entry)); refusal = 0 } ⌝ }
 {
-    let place = header_place(card.used);
+    let place = admission::header_place(card.used);
     let mut next = card;
     next.used = (place + 24 + payload.len()) as u16;
     next.last = place as u16;
@@ -194,7 +131,7 @@ pub fn add_message(card: Card, slots: &mut [u8], t: TransNo, at: u32, payload: &
     ensures { λ r. ⌜ r ≡ addMessage card (now (slots .entry)) (t .0) at (now (payload .entry)) .step ⌝ }
     ensures { λ _. ⌜ now (slots .exit) ≡ addMessage card (now (slots .entry)) (t .0) at (now (payload .entry)) .slots ⌝ }
 {
-    let refusal = add_refusal(card, slots, t, payload);
+    let refusal = admission::add_refusal(card, slots, t, payload);
     if refusal != 0 {
         return Stepped { card, refusal };
     }

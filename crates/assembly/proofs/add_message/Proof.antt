@@ -10,7 +10,7 @@ use Rattle.assembly.proofs.add_message.Statement.{statement}
 use Rattle.assembly.proofs.add_message.Tie as tie
 use Rattle.assembly.proofs.add_message.Reads as reads
 use Rattle.assembly.proofs.add_message.Lts as lts
-use Rattle.assembly.proofs.add_refusal.Reads as add-refusal-reads
+use Rattle.admission.proofs.add_refusal.Reads as add-refusal-reads
 use Rattle.assembly.proofs.count_message.Reads as count-message-reads
 use Rattle.assembly.proofs.write_message.Reads as write-message-reads
 

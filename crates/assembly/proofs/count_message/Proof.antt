@@ -6,7 +6,7 @@ use Rattle.assembly.proofs.count_message.Statement.{statement}
 use Rattle.assembly.proofs.count_message.Tie as tie
 use Rattle.assembly.proofs.count_message.Reads as reads
 use Rattle.assembly.proofs.count_message.Lts as lts
-use Rattle.assembly.proofs.header_place.Reads as header-place-reads
+use Rattle.admission.proofs.header_place.Reads as header-place-reads
 use Rattle.sendings.proofs.Sendings.add.Reads as add-reads
 
 header-place-requires : tie.Need-header-place-requires
@@ -29,7 +29,7 @@ add-requires c κs = search needs
 
 returns : tie.Need-returns
 unfolding withMessage
-returns c = rw (c .add .ensures, c .before .header-place .ensures .0)
+returns c = rw (c .add .ensures, c .before .header-place .ensures)
 
 pub count-message-spec : {M : Type 1} → statement M
 count-message-spec =

@@ -7,31 +7,32 @@ use borrow.Author.Tests.{lt-ltb}
 use lib.Dec.{ltb}
 use lib.ListN.{length}
 use Rattle.wire.specs.Format.{nextHeader}
-use Rattle.assembly.proofs.Limits.{past-limit}
+use Rattle.wire.proofs.Format.{next-gap}
+use Rattle.admission.proofs.Limits.{past-limit}
 use borrow.Author.Needs.{needs}
-use Rattle.assembly.proofs.is_past_limit.Statement.{statement}
-use Rattle.assembly.proofs.is_past_limit.Tie as tie
-use Rattle.assembly.proofs.is_past_limit.Reads as reads
-use Rattle.assembly.proofs.is_past_limit.Lts as lts
-use Rattle.assembly.proofs.header_place.Reads as header-place-reads
+use Rattle.admission.proofs.is_past_limit.Statement.{statement}
+use Rattle.admission.proofs.is_past_limit.Tie as tie
+use Rattle.admission.proofs.is_past_limit.Reads as reads
+use Rattle.admission.proofs.is_past_limit.Lts as lts
+use Rattle.admission.proofs.header_place.Reads as header-place-reads
 
 header-place-requires : tie.Need-header-place-requires
 header-place-requires c κs = search needs
 
 add-start : tie.Need-add-start
-add-start c = search needs
+add-start c = omega (arith, c .header-place .ensures, next-gap (c .before .before .args .used))
 
 returns : tie.Need-returns
 returns c =
     let a = c .before .before .before .args in
     sym (lt-ltb (a .limit) (nextHeader (a .used) + 24 + length (a .payload .now))
-    (omega (arith, c .if1 .taken, c .before .header-place .ensures .0)))
+    (omega (arith, c .if1 .taken, c .before .header-place .ensures)))
 
 returns-2 : tie.Need-returns-2
 returns-2 c =
     let a = c .before .before .before .args in
     past-limit (a .limit) (c .before .header-place .result + 24) (length (a .payload .now)) (omega (arith, c .if1 .left))
-    ∙ ap (λ (n : ℕ). ltb (a .limit) (n + 24 + length (a .payload .now))) (c .before .header-place .ensures .0)
+    ∙ ap (λ (n : ℕ). ltb (a .limit) (n + 24 + length (a .payload .now))) (c .before .header-place .ensures)
 
 pub is-past-limit-spec : {M : Type 1} → statement M
 is-past-limit-spec = tie.close (tie.spec header-place-requires add-start returns returns-2)

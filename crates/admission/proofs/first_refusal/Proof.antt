@@ -1,9 +1,9 @@
 -- `first_refusal`: the tests one after another.
 -- Assumes nothing.
-use Rattle.assembly.proofs.first_refusal.Statement.{statement}
-use Rattle.assembly.proofs.first_refusal.Tie as tie
-use Rattle.assembly.proofs.first_refusal.Reads as reads
-use Rattle.assembly.proofs.first_refusal.Lts as lts
+use Rattle.admission.proofs.first_refusal.Statement.{statement}
+use Rattle.admission.proofs.first_refusal.Tie as tie
+use Rattle.admission.proofs.first_refusal.Reads as reads
+use Rattle.admission.proofs.first_refusal.Lts as lts
 
 returns : tie.Need-returns
 returns c = rw (c .if1 .taken)
