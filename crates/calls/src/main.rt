@@ -183,7 +183,7 @@ fn call_seal(ends: Ends, slots: &[u8], out: &mut [u8], at: usize) -> Done {
 
 fn call_read(ends: Ends, frame: &[u8], out: &mut [u8], at: usize) -> Done {
     let card = ends.card;
-    let step = retransmission::read_acknowledgements(card, frame);
+    let step = acknowledgements::read_acknowledgements(card, frame);
     let next = step.card;
     let used = put_done(out, at, step.refusal);
     Done {

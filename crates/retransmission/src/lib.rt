@@ -1,7 +1,6 @@
-// What the card sends again, and until when: reading acknowledgements, showing a held frame, choosing what goes out
-// next. A part of what is lent is handed out. Assumes nothing of card and slots. It promises what card/specs/Card.antt says.
+// What the card sends again: showing a held frame, choosing what goes out next. A part of what is lent is handed out. Assumes
+// nothing of card and slots. It promises what card/specs/Card.antt says.
 use card::Card;
-use card::Stepped;
 use send_window::SendWindow;
 use seq::FrameNo;
 ghost use mathlib.Core.Path.{_≡_};
@@ -12,8 +11,6 @@ ghost use lib.Dec.{leb};
 ghost use lib.ListN.{length, take, drop};
 ghost use Rattle.send_window.specs.Window.{anyHeld, oldestHeld};
 ghost use Rattle.card.specs.Card.{
-  acknowledged,
-  readAcks,
   frameIn,
   showRefusal,
   showFrame,
@@ -21,37 +18,6 @@ ghost use Rattle.card.specs.Card.{
   chooseRefusal,
   chooseNext,
 };
-
-// ---- reading acknowledgements
-
-// The card once the count numbers from start on are acknowledged, and no refusal.
-fn acknowledge(card: Card, start: FrameNo, count: u8) -> Stepped
-    ensures { λ r. ⌜ r ≡ record { card = acknowledged card (start .0) count; refusal = 0 } ⌝ }
-{
-    let window = card.window.acknowledge(start, count);
-    let base = window.base;
-    let mut next = card;
-    next.window = window;
-    next.sendings = finishing::finish(card.sendings, base, window.next);
-    Stepped {
-        card: next,
-        refusal: 0,
-    }
-}
-
-// Reads the acknowledgements of an arriving frame.
-pub fn read_acknowledgements(card: Card, f: &[u8]) -> Stepped
-    ensures { λ r. ⌜ r ≡ readAcks card (now (f .entry)) ⌝ }
-{
-    let refusal = layout::refusal_of(f, card.own, card.peer);
-    if refusal != 0 {
-        return Stepped { card, refusal };
-    }
-    let head = reader::frame_header(f);
-    acknowledge(card, head.ackstart, head.ackcount)
-}
-
-// ---- showing and choosing
 
 // The first size bytes of the slot of a number, where slots have limit bytes: none of them where they pass the buffer's end.
 fn slot_front(slots: &[u8], limit: u16, n: FrameNo, size: u16) -> &[u8]

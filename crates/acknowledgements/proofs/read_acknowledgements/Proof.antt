@@ -6,11 +6,11 @@ use Rattle.wire.specs.Reading.{addressed, readFrame, refusalOf}
 use Rattle.reader.specs.Finding.{headerOf}
 use Rattle.card.specs.Card.{readAcks}
 use borrow.Author.Needs.{needs}
-use Rattle.retransmission.proofs.read_acknowledgements.Statement.{statement}
-use Rattle.retransmission.proofs.read_acknowledgements.Tie as tie
-use Rattle.retransmission.proofs.read_acknowledgements.Reads as reads
-use Rattle.retransmission.proofs.read_acknowledgements.Lts as lts
-use Rattle.retransmission.proofs.acknowledge.Reads as acknowledge-reads
+use Rattle.acknowledgements.proofs.read_acknowledgements.Statement.{statement}
+use Rattle.acknowledgements.proofs.read_acknowledgements.Tie as tie
+use Rattle.acknowledgements.proofs.read_acknowledgements.Reads as reads
+use Rattle.acknowledgements.proofs.read_acknowledgements.Lts as lts
+use Rattle.acknowledgements.proofs.acknowledge.Reads as acknowledge-reads
 use Rattle.reader.proofs.frame_header.Reads as frame-header-reads
 use Rattle.layout.proofs.refusal_of.Reads as refusal-of-reads
 

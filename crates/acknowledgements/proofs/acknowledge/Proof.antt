@@ -2,10 +2,10 @@
 -- Assumes nothing.
 use Rattle.card.specs.Card.{acknowledged}
 use borrow.Author.Needs.{needs}
-use Rattle.retransmission.proofs.acknowledge.Statement.{statement}
-use Rattle.retransmission.proofs.acknowledge.Tie as tie
-use Rattle.retransmission.proofs.acknowledge.Reads as reads
-use Rattle.retransmission.proofs.acknowledge.Lts as lts
+use Rattle.acknowledgements.proofs.acknowledge.Statement.{statement}
+use Rattle.acknowledgements.proofs.acknowledge.Tie as tie
+use Rattle.acknowledgements.proofs.acknowledge.Reads as reads
+use Rattle.acknowledgements.proofs.acknowledge.Lts as lts
 use Rattle.send_window.proofs.SendWindow.acknowledge.Reads as acknowledge-reads
 use Rattle.finishing.proofs.finish.Reads as finish-reads
 
