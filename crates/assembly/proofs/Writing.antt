@@ -22,36 +22,30 @@ message-carried : (c : Card) (t at : ℕ) (bytes : List ℕ) (h : MessageHeader)
 unfolding carrying headOf messageOf
 message-carried c t at bytes h e = rw e
 
--- k bytes of the buffer, those of the slot, are lent and come back as l
-module _ (c : Card) (slots : List ℕ) (t at : ℕ) (bytes : List ℕ) (h : MessageHeader) (k : ℕ) (l : List ℕ)
-    (ok : fits (c .limit) slots ≡ true) (k-is : k ≡ c .limit) (header : h ≡ headOf (messageOf c t at [])) where
+-- k bytes of the buffer from `start` on, those of the slot, are lent and come back as l
+module _ (c : Card) (slots : List ℕ) (t at : ℕ) (bytes : List ℕ) (h : MessageHeader) (start k : ℕ) (l : List ℕ)
+    (ok : fits (c .limit) slots ≡ true) (start-is : start ≡ slotStart c (c .window .next .0)) (k-is : k ≡ c .limit)
+    (header : h ≡ headOf (messageOf c t at [])) where
   abbrev num : ℕ
   num = c .window .next .0
 
   abbrev m : Message
   m = messageOf c t at bytes
 
-  part-built : l ≡ builtSlot c (slotOf c slots num) m → putMid (slotStart c num) k slots l ≡ builtSlots c slots m
+  part-built : l ≡ builtSlot c (slotOf c slots num) m → putMid start k slots l ≡ builtSlots c slots m
   unfolding builtSlots
   part-built e =
       let long = buffer-long (c .limit) slots ok in
       let inside = slot-inside c slots long num in
       let size : length l ≡ c .limit =
       ap length e ∙ length-slot c slots m (slotOf c slots num) ∙ slot-long c slots long num in
-      part-written slots l (slotStart c num) k (omega arith) (omega arith)
-      ∙ written-inside slots (slotStart c num) l (omega arith)
-      ∙ rw e
+      part-written slots l start k (omega arith) (omega arith)
+      ∙ written-inside slots start l (omega arith)
+      ∙ rw (start-is, e)
 
   pub slot-written : l ≡ cond (eqb (c .used) 0)
-      (firstMessage (take k (drop (slotStart c num) slots)) (c .peer) (c .own) num (carrying h bytes))
-      (nextMessage (take k (drop (slotStart c num) slots)) (c .used) (c .last) (carrying h bytes))
-      → putMid (slotStart c num) k slots l ≡ builtSlots c slots m
+      (firstMessage (take k (drop start slots)) (c .peer) (c .own) num (carrying h bytes))
+      (nextMessage (take k (drop start slots)) (c .used) (c .last) (carrying h bytes))
+      → putMid start k slots l ≡ builtSlots c slots m
   unfolding builtSlot
-  slot-written e =
-      part-built (e
-      ∙ ap (λ (n : ℕ). cond (eqb (c .used) 0)
-      (firstMessage (take n (drop (slotStart c num) slots)) (c .peer) (c .own) num (carrying h bytes))
-      (nextMessage (take n (drop (slotStart c num) slots)) (c .used) (c .last) (carrying h bytes))) k-is
-      ∙ ap (λ (x : Message). cond (eqb (c .used) 0)
-      (firstMessage (slotOf c slots num) (c .peer) (c .own) num x)
-      (nextMessage (slotOf c slots num) (c .used) (c .last) x)) (message-carried c t at bytes h header))
+  slot-written e = part-built (rw (start-is, k-is, message-carried c t at bytes h header) at e)

@@ -9,7 +9,7 @@ use seq::FrameNo;
 use seq::TransNo;
 use wire::MessageHeader;
 ghost use mathlib.Core.Path.{_≡_};
-ghost use mathlib.Core.Bool.{Bool, true, false, cond, not};
+ghost use mathlib.Core.Bool.{Bool, true, false, cond};
 ghost use Prim.Native.Nat.{_+_, _≤_};
 ghost use mathlib.Core.List.{[]};
 ghost use lib.Dec.{eqb};
@@ -94,9 +94,8 @@ fn write_message(card: Card, slots: &mut [u8], t: TransNo, at: u32, payload: &[u
     requires { ⌜ fits (card .limit) (now slots) ≡ true ⌝ }
     ensures { λ _. ⌜ now (slots .exit) ≡ builtSlots card (now (slots .entry)) (messageOf card (t .0) at (now (payload .entry))) ⌝ }
 {
-    let limit = card.limit as usize;
-    let start = (card.window.next.0 % 64) as usize * limit;
-    let end = start + limit;
+    let start = card::slot_start(card.limit, card.window.next);
+    let end = start + card.limit as usize;
     let h = header_of(card, t, at);
     write_in_slot(
         &mut slots[start..end],
@@ -141,25 +140,13 @@ pub fn add_message(card: Card, slots: &mut [u8], t: TransNo, at: u32, payload: &
 
 // ---- sealing
 
-// The refusals of sealing in their order: of the slots, then of a frame with no message; 0 for none.
-fn seal_refusal(fitting: bool, some: bool) -> u8
-    ensures { λ r. ⌜ r ≡ cond (not fitting) 26 (cond some 0 24) ⌝ }
-{
-    if fitting {
-        if some {
-            return 0;
-        }
-        return refusal::NOTHING_TO_SEAL;
-    }
-    refusal::BAD_SLOTS
-}
-
 // Seals the frame being built. The slots are lent for their length.
 pub fn seal_frame(card: Card, slots: &[u8]) -> Sealed
     ensures { λ r. ⌜ r ≡ sealFrame card (now (slots .entry)) ⌝ }
 {
     let fitting = card::is_fitting(card.limit as usize, slots);
-    let refusal = seal_refusal(fitting, card.used != 0);
+    let none = card.used == 0;
+    let refusal = card::first_refusal(!fitting, refusal::BAD_SLOTS, none, refusal::NOTHING_TO_SEAL);
     if refusal != 0 {
         return Sealed {
             card,

@@ -43,6 +43,13 @@ use Rattle.card.specs.Card.{
   frameIn,
 }
 
+-- ---- refusals
+
+-- the code asks what refuses, a definition may ask what does not
+pub turned : (b : Bool) (x y : ℕ) → cond (not b) x y ≡ cond b y x
+turned true x y = refl
+turned false x y = refl
+
 -- ---- a slot buffer that fits
 
 module _ (limit : ℕ) (slots : List ℕ) (ok : fits limit slots ≡ true) where

@@ -6,8 +6,9 @@ use sendings::Sendings;
 use seq::FrameNo;
 use seq::TransNo;
 ghost use mathlib.Core.Path.{_≡_};
-ghost use mathlib.Core.Bool.{Bool, true, false};
-ghost use Rattle.card.specs.Card.{freshCard, fits, cardRefusal, openCard};
+ghost use mathlib.Core.Bool.{Bool, true, false, cond};
+ghost use Prim.Native.Nat.{_*_, _%_, _<_};
+ghost use Rattle.card.specs.Card.{freshCard, fits, openCard};
 
 // used is the length of the frame being built, 0 where there is none, and last the offset of its last message header.
 pub struct Card {
@@ -67,26 +68,33 @@ pub fn is_fitting(limit: usize, slots: &[u8]) -> bool
     slots.len() == 64 * limit
 }
 
-fn card_refusal(own: u16, peer: u16, limit: usize, slots: &[u8]) -> u8
-    ensures { λ r. ⌜ r ≡ cardRefusal own peer limit (now (slots .entry)) ⌝ }
+// Where the slot of a frame starts, in a buffer of slots of limit bytes: far below what a word holds.
+pub fn slot_start(limit: u16, n: FrameNo) -> usize
+    ensures { λ r. ⌜ (r ≡ n .0 % 64 * limit) × (r < 4194304) ⌝ }
 {
-    if own == 0 {
-        return refusal::ID_ZERO;
+    (n.0 % 64) as usize * limit as usize
+}
+
+// The first of two refusals whose test holds, by its number, and 0 for none.
+pub fn first_refusal(one: bool, number: u8, other: bool, second: u8) -> u8
+    ensures { λ r. ⌜ r ≡ cond one number (cond other second 0) ⌝ }
+{
+    if one {
+        return number;
     }
-    if peer == 0 {
-        return refusal::ID_ZERO;
+    if other {
+        return second;
     }
-    if is_fitting(limit, slots) {
-        return 0;
-    }
-    refusal::BAD_SLOTS
+    0
 }
 
 // Opens a card with a frame limit: 13 where an ID is 0, then 26 where the limit or the slot buffer is not as it must be.
 pub fn open_card(own: u16, peer: u16, limit: usize, slots: &[u8]) -> Stepped
     ensures { λ r. ⌜ r ≡ openCard own peer limit (now (slots .entry)) ⌝ }
 {
-    let refusal = card_refusal(own, peer, limit, slots);
+    let no_id = (own == 0) | (peer == 0);
+    let fitting = is_fitting(limit, slots);
+    let refusal = first_refusal(no_id, refusal::ID_ZERO, !fitting, refusal::BAD_SLOTS);
     if refusal != 0 {
         return Stepped {
             card: fresh_card(0, 0, 0),

@@ -4,7 +4,7 @@ use card::Card;
 use send_window::SendWindow;
 use seq::FrameNo;
 ghost use mathlib.Core.Path.{_≡_};
-ghost use mathlib.Core.Bool.{Bool, true, false, cond, not};
+ghost use mathlib.Core.Bool.{Bool, true, false, cond};
 ghost use mathlib.Core.List.{[]};
 ghost use Prim.Native.Nat.{_+_, _*_, _%_};
 ghost use lib.Dec.{leb};
@@ -24,7 +24,7 @@ fn slot_front(slots: &[u8], limit: u16, n: FrameNo, size: u16) -> &[u8]
     ensures { λ r. ⌜ now r ≡ cond (leb (n .0 % 64 * limit + size) (length (now (slots .entry))))
         (take size (drop (n .0 % 64 * limit) (now (slots .entry)))) [] ⌝ }
 {
-    let start = (n.0 % 64) as usize * limit as usize;
+    let start = card::slot_start(limit, n);
     let end = start + size as usize;
     if end <= slots.len() {
         return &slots[start..end];
@@ -39,25 +39,13 @@ fn frame_in(card: Card, slots: &[u8], n: FrameNo) -> &[u8]
     slot_front(slots, card.limit, n, card.window.size(n))
 }
 
-// The refusals of showing and of choosing in their order: of the slots, then of having nothing to hand out; 0 for none.
-fn first_refusal(fitting: bool, some: bool) -> u8
-    ensures { λ r. ⌜ r ≡ cond (not fitting) 26 (cond some 0 25) ⌝ }
-{
-    if fitting {
-        if some {
-            return 0;
-        }
-        return refusal::NOT_HELD;
-    }
-    refusal::BAD_SLOTS
-}
-
 // The refusal of showing a frame, 0 for none.
 pub fn show_refusal(card: Card, slots: &[u8], n: FrameNo) -> u8
     ensures { λ r. ⌜ r ≡ showRefusal card (now (slots .entry)) (n .0) ⌝ }
 {
     let held = card.window.holds(n);
-    first_refusal(card::is_fitting(card.limit as usize, slots), held)
+    let fitting = card::is_fitting(card.limit as usize, slots);
+    card::first_refusal(!fitting, refusal::BAD_SLOTS, !held, refusal::NOT_HELD)
 }
 
 // Shows a held frame: a part of the slots, empty where the showing is refused.
@@ -90,8 +78,8 @@ pub fn choose_refusal(card: Card, slots: &[u8], ack: &[u8]) -> u8
 {
     let fitting = card::is_fitting(card.limit as usize, slots);
     let lent = is_ack(ack);
-    let held = is_any_held(card.window);
-    first_refusal(fitting, lent | held)
+    let some = lent | is_any_held(card.window);
+    card::first_refusal(!fitting, refusal::BAD_SLOTS, !some, refusal::NOT_HELD)
 }
 
 // The oldest held frame: a part of the slots.

@@ -1,13 +1,15 @@
--- `choose_refusal`: what each test found, in the order of the refusals.
+-- `choose_refusal`: 26 before 25, whatever acknowledgement is lent.
 -- Assumes nothing.
+use mathlib.Core.Bool.{_||_}
 use Rattle.card.specs.Card.{chooseRefusal}
+use Rattle.card.proofs.Slots.{turned}
 use borrow.Author.Needs.{needs}
 use Rattle.retransmission.proofs.choose_refusal.Statement.{statement}
 use Rattle.retransmission.proofs.choose_refusal.Tie as tie
 use Rattle.retransmission.proofs.choose_refusal.Reads as reads
 use Rattle.retransmission.proofs.choose_refusal.Lts as lts
 use Rattle.card.proofs.is_fitting.Reads as is-fitting-reads
-use Rattle.retransmission.proofs.first_refusal.Reads as first-refusal-reads
+use Rattle.card.proofs.first_refusal.Reads as first-refusal-reads
 use Rattle.retransmission.proofs.is_ack.Reads as is-ack-reads
 use Rattle.retransmission.proofs.is_any_held.Reads as is-any-held-reads
 
@@ -29,8 +31,14 @@ first-refusal-requires c κs = search needs
 returns : tie.Need-returns
 unfolding chooseRefusal
 returns c =
-    rw (← c .before .before .before .is-fitting .ensures, ← c .before .before .is-ack .ensures, ← c .before .is-any-held .ensures)
-    (c .first-refusal .ensures)
+    let lent = c .before .before .is-ack in
+    let any = c .before .is-any-held in
+    rw (
+      ← c .before .before .before .is-fitting .ensures,
+      ← lent .ensures,
+      ← any .ensures,
+      ← turned (lent .result || any .result) 25 0,
+    ) (c .first-refusal .ensures)
 
 pub choose-refusal-spec : {M : Type 1} → statement M
 choose-refusal-spec =

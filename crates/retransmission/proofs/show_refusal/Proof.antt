@@ -1,13 +1,14 @@
--- `show_refusal`: what each test found, in the order of the refusals.
+-- `show_refusal`: 26 before 25.
 -- Assumes nothing.
 use Rattle.card.specs.Card.{showRefusal}
+use Rattle.card.proofs.Slots.{turned}
 use borrow.Author.Needs.{needs}
 use Rattle.retransmission.proofs.show_refusal.Statement.{statement}
 use Rattle.retransmission.proofs.show_refusal.Tie as tie
 use Rattle.retransmission.proofs.show_refusal.Reads as reads
 use Rattle.retransmission.proofs.show_refusal.Lts as lts
+use Rattle.card.proofs.first_refusal.Reads as first-refusal-reads
 use Rattle.card.proofs.is_fitting.Reads as is-fitting-reads
-use Rattle.retransmission.proofs.first_refusal.Reads as first-refusal-reads
 use Rattle.send_window.proofs.SendWindow.holds.Reads as holds-reads
 
 holds-requires : tie.Need-holds-requires
@@ -24,7 +25,9 @@ first-refusal-requires c κs = search needs
 
 returns : tie.Need-returns
 unfolding showRefusal
-returns c = rw (← c .before .is-fitting .ensures, ← c .before .before .before .holds .ensures) (c .first-refusal .ensures)
+returns c =
+    let h = c .before .before .before .holds in
+    rw (← c .before .is-fitting .ensures, ← h .ensures, ← turned (h .result) 25 0) (c .first-refusal .ensures)
 
 pub show-refusal-spec : {M : Type 1} → statement M
 show-refusal-spec =
