@@ -20,8 +20,8 @@ use Rattle.send_window.specs.declared.SendWindow.{SendWindow}
 use Rattle.send_window.specs.Window.{acknowledging, releasing}
 use Rattle.send_window.proofs.Window.{base-after, marks-after, next-after}
 use Rattle.sendings.specs.declared.Sending.{Sending}
-use Rattle.sendings.specs.Sendings.{sendingAt, sent, finishing, passing}
-use Rattle.sendings.proofs.Finishing.{not-sent, sent-is, lowest-after, finished-after}
+use Rattle.sendings.specs.Sendings.{sendingAt, delivered, finishing, passing}
+use Rattle.sendings.proofs.Finishing.{not-delivered, delivered-is, lowest-after, finished-after}
 use Rattle.card.specs.declared.Card.{Card}
 use Rattle.card.specs.Card.{acknowledged}
 use Rattle.card.proofs.Slots.{Built, built-same}
@@ -214,9 +214,9 @@ module _ (c : Card) (slots : List ℕ) (b : Book) (r : CardFor c slots b) (s : S
     t = r .termsAre k least isOpen
 
     -- a message of it is missing
-    not-yet : inAll b k < needed (transactionAt b k .count) → sent terms (window .base .0) (window .next .0) ≡ finished b′ k
+    not-yet : inAll b k < needed (transactionAt b k .count) → delivered terms (window .base .0) (window .next .0) ≡ finished b′ k
     not-yet h =
-        not-sent terms (window .base .0) (window .next .0) (omega (arith, t .addedIs, ap needed (t .countIs)))
+        not-delivered terms (window .base .0) (window .next .0) (omega (arith, t .addedIs, ap needed (t .countIs)))
         ∙ sym (finished-is k ∙ lt-leb (needed (transactionAt b k .count)) (inFirst b k (releasedCount b′)) (omega (
           arith,
           count-prefix k (b .frames) (releasedCount b′),
@@ -250,18 +250,18 @@ module _ (c : Card) (slots : List ℕ) (b : Book) (r : CardFor c slots b) (s : S
               ∙ sym (finished-is k ∙ lt-leb (needed (transactionAt b k .count)) (inFirst b k (releasedCount b′))
               (omega (arith, f .notBefore (releasedCount b′) (omega arith))))
 
-      all-added : sent terms (window .base .0) (window .next .0) ≡ finished b′ k
+      all-added : delivered terms (window .base .0) (window .next .0) ≡ finished b′ k
       all-added =
-          sent-is terms (window .base .0) (window .next .0) (releasedCount b) (releasedCount b′) total (f .frame)
+          delivered-is terms (window .base .0) (window .next .0) (releasedCount b) (releasedCount b′) total (f .frame)
           (t .addedIs ∙ all ∙ sym (ap needed (t .countIs))) (f .isNumber) base-is next-is unreleased (f .atMost) released-more
           released-top (s .framesFit)
           ∙ by-frame
 
-    sent-now : sent terms (window .base .0) (window .next .0) ≡ finished b′ k
-    sent-now = go (decLt (inAll b k) (needed (transactionAt b k .count)))
+    delivered-now : delivered terms (window .base .0) (window .next .0) ≡ finished b′ k
+    delivered-now = go (decLt (inAll b k) (needed (transactionAt b k .count)))
       where
         go : Dec (inAll b k < needed (transactionAt b k .count))
-            → sent terms (window .base .0) (window .next .0) ≡ finished b′ k
+            → delivered terms (window .base .0) (window .next .0) ≡ finished b′ k
         go (yes h) = not-yet h
         go (no n) =
             let all : inAll b k ≡ needed (transactionAt b k .count) = omega (arith, s .atMost k isOpen) in
@@ -287,7 +287,7 @@ module _ (c : Card) (slots : List ℕ) (b : Book) (r : CardFor c slots b) (s : S
       rw low-is
       (lowest-after (c .sendings) (lowUnfinished b) (length (b .transactions)) (low-most c slots b r s) (s .transFit)
       (r .transLowIs) (r .transNextIs) (window .base .0) (window .next .0) (finished b) (finished b′) (r .finishedAre)
-      finished-below finished-stays sent-now unopened-now)
+      finished-below finished-stays delivered-now unopened-now)
 
   marks-now : (i : ℕ) → mark (read-card .sendings .finished) i ≡ finished b′ (lowUnfinished b′ + i)
   unfolding acknowledged
@@ -295,7 +295,7 @@ module _ (c : Card) (slots : List ℕ) (b : Book) (r : CardFor c slots b) (s : S
       rw low-is
       (finished-after (c .sendings) (lowUnfinished b) (length (b .transactions)) (low-most c slots b r s) (s .transFit)
       (r .transLowIs) (r .transNextIs) (window .base .0) (window .next .0) (finished b) (finished b′) (r .finishedAre)
-      finished-below finished-stays sent-now unopened-now i)
+      finished-below finished-stays delivered-now unopened-now i)
 
   low-more : lowUnfinished b ≤ lowUnfinished b′
   low-more =

@@ -26,7 +26,7 @@ use Rattle.sendings.specs.Sendings.{
   opening,
   takes,
   adding,
-  sent,
+  delivered,
   finishedBy,
   passing,
   finishing,
@@ -110,7 +110,7 @@ unfolding distance advance latest mark withMark leading leadingOnes marksOf litt
     needed nextHeader addressed follows messageAt messagesFrom headingOf readFrame frameHead messageHead laid frameOf ackFrame
     roomFor firstMessage nextMessage agrees termsRefusal addressRefusal fills refusing closing holding verdictOf
     verdict after fresh openedOf effect takeIn takeAll accepting numbered receiveOf acknowledgementOf emptyWindow held
-    beforeHeld sealing acknowledgedBy releasing acknowledging noSendings openingRefusal opening takes adding sent
+    beforeHeld sealing acknowledgedBy releasing acknowledging noSendings openingRefusal opening takes adding delivered
     finishedBy passing finishing freshCard fits cardRefusal openCard openTransaction addRefusal messageOf builtSlot
     builtSlots withMessage addMessage sealRefusal sealFrame acknowledged readAcks frameIn showRefusal showFrame
     chooseRefusal chooseNext byCard acksFor byHost step run initial messagesIn ofTransaction allMessagesIn complete

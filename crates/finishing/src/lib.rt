@@ -7,11 +7,11 @@ use seq::FrameNo;
 ghost use mathlib.Core.Path.{_≡_};
 ghost use mathlib.Core.Bool.{Bool, true, false};
 ghost use Rattle.marks.specs.Marks.{marksOf};
-ghost use Rattle.sendings.specs.Sendings.{sent, finishedBy, passing, finishing};
+ghost use Rattle.sendings.specs.Sendings.{delivered, finishedBy, passing, finishing};
 
 // Whether all messages are added and lie in frames before base, where next is the frame being built.
-fn is_sent(e: Sending, base: FrameNo, next: FrameNo) -> bool
-    ensures { λ r. ⌜ r ≡ sent e (base .0) (next .0) ⌝ }
+fn is_delivered(e: Sending, base: FrameNo, next: FrameNo) -> bool
+    ensures { λ r. ⌜ r ≡ delivered e (base .0) (next .0) ⌝ }
 {
     if e.added != sendings::messages_of(e.count) {
         return false;
@@ -33,7 +33,7 @@ fn is_finished(s: Sendings, base: FrameNo, next: FrameNo, i: u32) -> bool
         return false;
     }
     let place = ((lowest.0 % 32 + i % 32) % 32) as usize;
-    is_sent(s.table[place], base, next)
+    is_delivered(s.table[place], base, next)
 }
 
 // Marks of the transactions finished then.

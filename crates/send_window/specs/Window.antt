@@ -52,7 +52,7 @@ acknowledgedBy w start count i =
     mark (w .acked) i
     || (ltb i (unreleased w) && inRange frameSpace start count (advance frameSpace (w .base .0) i))
 
--- A frame is released when it and all sealed before it are acknowledged: the window moves past these.
+-- Released (a term of the rules): the frame and all sealed before it are acknowledged. The window moves past these.
 unfoldable pub releasing : SendWindow → ℕ → SendWindow
 releasing w acked =
     let run = leadingOnes 64 acked in

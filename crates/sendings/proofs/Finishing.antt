@@ -21,7 +21,7 @@ use Rattle.sendings.specs.Sendings.{
   noSending,
   opened,
   sendingAt,
-  sent,
+  delivered,
   finishedBy,
   passing,
   finishing,
@@ -30,18 +30,18 @@ use Rattle.sendings.specs.Sendings.{
 -- ---- which transactions are finished
 
 -- not while a message of it is missing
-pub not-sent : (e : Sending) (base next : ℕ) → e .added < needed (e .count) → sent e base next ≡ false
-unfolding sent
-not-sent e base next h = rw (ne-eqb (e .added) (needed (e .count)) (omega arith))
+pub not-delivered : (e : Sending) (base next : ℕ) → e .added < needed (e .count) → delivered e base next ≡ false
+unfolding delivered
+not-delivered e base next h = rw (ne-eqb (e .added) (needed (e .count)) (omega arith))
 
 -- With all messages added, exactly when the frame of the latest is released. Before the step `was` frames were released, and not
 -- that one; after it `released` are, and the frame being built is the one of count `sealed`.
-pub sent-is : (e : Sending) (base next was released sealed frame : ℕ) → e .added ≡ needed (e .count)
+pub delivered-is : (e : Sending) (base next was released sealed frame : ℕ) → e .added ≡ needed (e .count)
     → e .latest .0 ≡ frame % frameSpace → base ≡ released % frameSpace → next ≡ sealed % frameSpace
     → was ≤ frame → frame ≤ sealed → was ≤ released → released ≤ sealed → sealed ≤ was + 64
-    → sent e base next ≡ ltb frame released
-unfolding sent
-sent-is e base next was released sealed frame all l b n h₁ h₂ h₃ h₄ h₅ =
+    → delivered e base next ≡ ltb frame released
+unfolding delivered
+delivered-is e base next was released sealed frame all l b n h₁ h₂ h₃ h₄ h₅ =
     rw (eq-eqb (e .added) (needed (e .count)) all, l, b, n) (go (decLt frame released))
   where
     room : distance frameSpace (released % frameSpace) (sealed % frameSpace) ≡ sealed - released
@@ -86,7 +86,7 @@ module _ (s : Sendings) (low total : ℕ) (within : low ≤ total) (few : total 
   -- p says which are finished before the frames below `base` are released, and q which are after it
   module _ (base next : ℕ) (p q : ℕ → Bool) (marks-are : (i : ℕ) → mark (s .finished) i ≡ p (low + i))
       (below : (i : ℕ) → i < low → q i ≡ true) (stays : (i : ℕ) → p i ≡ true → q i ≡ true)
-      (now : (i : ℕ) → low ≤ i → i < total → p i ≡ false → sent (sendingAt s i) base next ≡ q i)
+      (now : (i : ℕ) → low ≤ i → i < total → p i ≡ false → delivered (sendingAt s i) base next ≡ q i)
       (unopened : (i : ℕ) → total ≤ i → q i ≡ false) where
     -- a place goes on with the numbers where those come round
     place-is : (i : ℕ) → sendingAt s (s .lowest .0 + i) ≡ sendingAt s (low + i)
@@ -99,7 +99,7 @@ module _ (s : Sendings) (low total : ℕ) (within : low ≤ total) (few : total 
     finished-is i = rw (marks-are i, place-is i) (go (p (low + i)) refl (decLt (low + i) total))
       where
         go : (x : Bool) → p (low + i) ≡ x → Dec (low + i < total)
-            → (x || (ltb i (opened s) && sent (sendingAt s (low + i)) base next)) ≡ q (low + i)
+            → (x || (ltb i (opened s) && delivered (sendingAt s (low + i)) base next)) ≡ q (low + i)
         go true e d = sym (stays (low + i) e)
         go false e (yes h) =
             rw (lt-ltb i (opened s) (omega (arith, opened-is))) (now (low + i) (omega arith) h e)

@@ -75,16 +75,16 @@ adding s t frame =
 
 -- All its messages are added, and the frame with the latest of them is released: it is neither one of those from `base` on that
 -- are sealed and not released nor the one being built, which will be `next`.
-unfoldable pub sent : Sending → ℕ → ℕ → Bool
-sent e base next =
+unfoldable pub delivered : Sending → ℕ → ℕ → Bool
+delivered e base next =
     eqb (e .added) (needed (e .count))
     && ltb (distance frameSpace base next) (distance frameSpace base (e .latest .0))
 
--- The i-th transaction from the lowest unfinished one on is finished. What was finished stays so: a frame number that comes
--- round decides nothing anew, since `sent` is asked in the same step that releases the frame.
+-- The i-th transaction from the lowest unfinished one on is finished (a term of the rules). What was finished stays so: a frame
+-- number that comes round decides nothing anew, since `delivered` is asked in the same step that releases the frame.
 unfoldable pub finishedBy : Sendings → ℕ → ℕ → ℕ → Bool
 finishedBy s base next i =
-    mark (s .finished) i || (ltb i (opened s) && sent (sendingAt s (s .lowest .0 + i)) base next)
+    mark (s .finished) i || (ltb i (opened s) && delivered (sendingAt s (s .lowest .0 + i)) base next)
 
 -- The window moves past consecutive finished ones.
 unfoldable pub passing : Sendings → ℕ → Sendings

@@ -11,7 +11,7 @@ use Rattle.finishing.proofs.is_finished.Tie as tie
 use Rattle.finishing.proofs.is_finished.Reads as reads
 use Rattle.finishing.proofs.is_finished.Lts as lts
 use Rattle.marks.proofs.word32.is_marked.Reads as is-marked-reads
-use Rattle.finishing.proofs.is_sent.Reads as is-sent-reads
+use Rattle.finishing.proofs.is_delivered.Reads as is-delivered-reads
 use Rattle.seq.proofs.TransNo.distance.Reads as distance-reads
 
 is-marked-requires : tie.Need-is-marked-requires
@@ -42,14 +42,14 @@ add-place c = search needs
 cast-place : tie.Need-cast-place
 cast-place c = search needs
 
-mul-is-sent : tie.Need-mul-is-sent
-mul-is-sent c = search needs
+mul-is-delivered : tie.Need-mul-is-delivered
+mul-is-delivered c = search needs
 
-element-copy-out-is-sent : tie.Need-element-copy-out-is-sent
-element-copy-out-is-sent c = search needs
+element-copy-out-is-delivered : tie.Need-element-copy-out-is-delivered
+element-copy-out-is-delivered c = search needs
 
-is-sent-requires : tie.Need-is-sent-requires
-is-sent-requires c κs = search needs
+is-delivered-requires : tie.Need-is-delivered-requires
+is-delivered-requires c κs = search needs
 
 returns-3 : tie.Need-returns-3
 unfolding finishedBy
@@ -64,7 +64,7 @@ returns-3 c =
       m .if1 .left,
       ← n .ensures,
       lt-ltb (a .i) (n .result) (omega (arith, s .if2 .left)),
-    ) (c .is-sent .ensures ∙ rw (place))
+    ) (c .is-delivered .ensures ∙ rw (place))
 
 pub is-finished-spec : {M : Type 1} → statement M
 is-finished-spec =
@@ -76,7 +76,7 @@ is-finished-spec =
     returns-2
     add-place
     cast-place
-    mul-is-sent
-    element-copy-out-is-sent
-    is-sent-requires
+    mul-is-delivered
+    element-copy-out-is-delivered
+    is-delivered-requires
     returns-3)

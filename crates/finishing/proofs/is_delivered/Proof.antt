@@ -1,12 +1,12 @@
--- `finishing::is_sent`: all are added, and the latest lies beyond the frames not released.
+-- `finishing::is_delivered`: all are added, and the latest lies beyond the frames not released.
 -- Assumes nothing.
 use borrow.Author.Tests.{eq-eqb, ne-eqb}
-use Rattle.sendings.specs.Sendings.{sent}
+use Rattle.sendings.specs.Sendings.{delivered}
 use borrow.Author.Needs.{needs}
-use Rattle.finishing.proofs.is_sent.Statement.{statement}
-use Rattle.finishing.proofs.is_sent.Tie as tie
-use Rattle.finishing.proofs.is_sent.Reads as reads
-use Rattle.finishing.proofs.is_sent.Lts as lts
+use Rattle.finishing.proofs.is_delivered.Statement.{statement}
+use Rattle.finishing.proofs.is_delivered.Tie as tie
+use Rattle.finishing.proofs.is_delivered.Reads as reads
+use Rattle.finishing.proofs.is_delivered.Lts as lts
 use Rattle.sendings.proofs.messages_of.Reads as messages-of-reads
 use Rattle.seq.proofs.FrameNo.distance.Reads as distance-reads
 
@@ -14,7 +14,7 @@ messages-of-requires : tie.Need-messages-of-requires
 messages-of-requires c κs = search needs
 
 returns : tie.Need-returns
-unfolding sent
+unfolding delivered
 returns c = rw (← c .before .before .messages-of .ensures, ne-eqb _ _ (c .if1 .taken))
 
 distance-requires : tie.Need-distance-requires
@@ -24,7 +24,7 @@ distance-requires-2 : tie.Need-distance-requires-2
 distance-requires-2 c κs = search needs
 
 returns-2 : tie.Need-returns-2
-unfolding sent
+unfolding delivered
 returns-2 c =
     let s = c .before .before .before in
     rw (
@@ -34,7 +34,7 @@ returns-2 c =
       ← c .distance2 .ensures,
     )
 
-pub is-sent-spec : {M : Type 1} → statement M
-is-sent-spec =
+pub is-delivered-spec : {M : Type 1} → statement M
+is-delivered-spec =
     tie.close
     (tie.spec messages-of-requires returns distance-requires distance-requires-2 returns-2)
