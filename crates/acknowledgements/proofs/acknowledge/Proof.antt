@@ -1,5 +1,7 @@
 -- `acknowledge`: frames are released, and with them transactions finish.
 -- Assumes nothing.
+use mathlib.Core.Path.{_≡_}
+use Rattle.sendings.specs.Sendings.{finishing}
 use Rattle.card.specs.Card.{acknowledged}
 use borrow.Author.Needs.{needs}
 use Rattle.acknowledgements.proofs.acknowledge.Statement.{statement}
@@ -17,7 +19,12 @@ finish-requires c κs = search needs
 
 returns : tie.Need-returns
 unfolding acknowledged
-returns c = rw (c .finish .ensures, c .before .before .acknowledge .ensures)
+returns c =
+    let s = c .before .before in
+    let a = s .before .args in
+    let w = s .acknowledge .result in
+    let left : c .finish .result ≡ finishing (a .card .sendings) (w .base .0) (w .next .0) = c .finish .ensures in
+    rw (left, s .acknowledge .ensures)
 
 pub acknowledge-spec : {M : Type 1} → statement M
 acknowledge-spec = tie.close (tie.spec acknowledge-requires finish-requires returns)

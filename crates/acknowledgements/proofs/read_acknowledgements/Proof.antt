@@ -4,7 +4,7 @@ use mathlib.Core.Path.{_≡_}
 use borrow.Author.Tests.{eq-eqb, ne-eqb}
 use Rattle.wire.specs.Reading.{addressed, readFrame, refusalOf}
 use Rattle.reader.specs.Finding.{headerOf}
-use Rattle.card.specs.Card.{readAcks}
+use Rattle.card.specs.Card.{acknowledged, readAcks}
 use borrow.Author.Needs.{needs}
 use Rattle.acknowledgements.proofs.read_acknowledgements.Statement.{statement}
 use Rattle.acknowledgements.proofs.read_acknowledgements.Tie as tie
@@ -35,12 +35,12 @@ acknowledge-requires c κs = search needs
 returns-2 : tie.Need-returns-2
 unfolding readAcks headerOf
 returns-2 c =
-    rw (
-      c .acknowledge .ensures,
-      c .before .frame-header .ensures,
-      ← c .before .before .before .refusal-of .ensures,
-      eq-eqb _ 0 (c .before .before .if1 .left),
-    )
+    let s = c .before .before .before in
+    let a = s .before .before .args in
+    let h = c .before .frame-header .result in
+    let step : c .acknowledge .result
+    ≡ record { card = acknowledged (a .card) (h .ackstart .0) (h .ackcount); refusal = 0 } = c .acknowledge .ensures in
+    rw (step, c .before .frame-header .ensures, ← s .refusal-of .ensures, eq-eqb _ 0 (c .before .before .if1 .left))
 
 pub read-acknowledgements-spec : {M : Type 1} → statement M
 read-acknowledgements-spec =

@@ -1,6 +1,8 @@
 -- `finishing::is_delivered`: all are added, and the latest lies beyond the frames not released.
 -- Assumes nothing.
+use mathlib.Core.Path.{_≡_}
 use borrow.Author.Tests.{eq-eqb, ne-eqb}
+use Rattle.seq.specs.Ring.{frameSpace, distance}
 use Rattle.sendings.specs.Sendings.{delivered}
 use borrow.Author.Needs.{needs}
 use Rattle.finishing.proofs.is_delivered.Statement.{statement}
@@ -27,12 +29,10 @@ returns-2 : tie.Need-returns-2
 unfolding delivered
 returns-2 c =
     let s = c .before .before .before in
-    rw (
-      ← s .before .before .messages-of .ensures,
-      eq-eqb _ _ (s .if1 .left),
-      ← c .before .distance .ensures,
-      ← c .distance2 .ensures,
-    )
+    let a = s .before .before .before .args in
+    let unreleased : c .before .distance .result ≡ distance frameSpace (a .base .0) (a .next .0) = c .before .distance .ensures in
+    let away : c .distance2 .result ≡ distance frameSpace (a .base .0) (a .e .latest .0) = c .distance2 .ensures in
+    rw (← s .before .before .messages-of .ensures, eq-eqb _ _ (s .if1 .left), ← unreleased, ← away)
 
 pub is-delivered-spec : {M : Type 1} → statement M
 is-delivered-spec =

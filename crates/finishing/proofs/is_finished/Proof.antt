@@ -4,6 +4,7 @@ use mathlib.Core.Path.{_≡_, _∙_}
 use Prim.Native.Nat.{_+_, _%_}
 use native.Mathlib.Omega.{arith}
 use borrow.Author.Tests.{lt-ltb, le-ltb}
+use Rattle.marks.specs.Marks.{mark}
 use Rattle.sendings.specs.Sendings.{finishedBy}
 use borrow.Author.Needs.{needs}
 use Rattle.finishing.proofs.is_finished.Statement.{statement}
@@ -19,7 +20,10 @@ is-marked-requires c κs = search needs
 
 returns : tie.Need-returns
 unfolding finishedBy
-returns c = rw (← c .before .is-marked .ensures, c .if1 .taken)
+returns c =
+    let a = c .before .before .args in
+    let known : c .before .is-marked .result ≡ mark (a .t1 .finished) (a .i) = c .before .is-marked .ensures in
+    rw (← known, c .if1 .taken)
 
 distance-requires : tie.Need-distance-requires
 distance-requires c κs = search needs

@@ -1,5 +1,7 @@
 -- `frame_in`: as many bytes of the slot as the window says of that frame.
 -- Assumes nothing.
+use mathlib.Core.Path.{_≡_}
+use Rattle.send_window.specs.Window.{sizeOf}
 use Rattle.card.specs.Card.{frameIn}
 use borrow.Author.Needs.{needs}
 use Rattle.retransmission.proofs.frame_in.Statement.{statement}
@@ -17,7 +19,11 @@ slot-front-requires c κs = search needs
 
 returns : tie.Need-returns
 unfolding frameIn
-returns c = rw (← c .before .size .ensures) (c .slot-front .ensures)
+returns c =
+    let s = c .before in
+    let a = s .before .before .args in
+    let size : s .size .result ≡ sizeOf (a .card .window) (a .n .0) = s .size .ensures in
+    rw (← size) (c .slot-front .ensures)
 
 pub frame-in-spec : {M : Type 1} → statement M
 frame-in-spec = tie.close (tie.spec size-requires slot-front-requires returns)

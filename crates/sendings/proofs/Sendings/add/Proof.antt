@@ -49,7 +49,7 @@ returns-2 c =
     let a = s .before .before .args in
     rw (
       sym (s .before .takes .ensures) ∙ not-false (s .before .takes .result) (s .if1 .left),
-      add-one (sendingAt (a .self) (a .t .0) .added),
+      ← add-one (sendingAt (a .self) (a .t .0) .added),
     )
 
 pub add-spec : {M : Type 1} → statement M

@@ -1,8 +1,10 @@
 -- `Sendings::takes`: opened, and with messages to come.
 -- Assumes nothing.
+use mathlib.Core.Path.{_≡_}
 use native.Mathlib.Omega.{arith}
 use borrow.Author.Tests.{lt-ltb, le-ltb}
-use Rattle.sendings.specs.Sendings.{takes}
+use Rattle.seq.specs.Ring.{transSpace, distance}
+use Rattle.sendings.specs.Sendings.{opened, takes}
 use borrow.Author.Needs.{needs}
 use Rattle.sendings.proofs.Sendings.takes.Statement.{statement}
 use Rattle.sendings.proofs.Sendings.takes.Tie as tie
@@ -20,9 +22,11 @@ distance-requires-2 c κs = search needs
 returns : tie.Need-returns
 unfolding takes
 returns c =
-    let n = c .before .before .distance in
-    let d = c .before .distance2 in
-    rw (← n .ensures, ← d .ensures, le-ltb (d .result) (n .result) (omega (arith, c .if1 .taken)))
+    let s = c .before .before in
+    let a = s .before .before .before .args in
+    let all : s .distance .result ≡ opened (a .t1) = s .distance .ensures in
+    let away : c .before .distance2 .result ≡ distance transSpace (a .t1 .lowest .0) (a .t .0) = c .before .distance2 .ensures in
+    rw (← all, ← away, le-ltb (c .before .distance2 .result) (s .distance .result) (omega (arith, c .if1 .taken)))
 
 cast-e : tie.Need-cast-e
 cast-e c = search needs
@@ -40,12 +44,14 @@ returns-2 : tie.Need-returns-2
 unfolding takes
 returns-2 c =
     let s = c .before .before .before .before in
-    let n = s .before .before .distance in
-    let d = s .before .distance2 in
+    let d = s .before in
+    let a = d .before .before .before .before .args in
+    let all : d .before .distance .result ≡ opened (a .t1) = d .before .distance .ensures in
+    let away : d .distance2 .result ≡ distance transSpace (a .t1 .lowest .0) (a .t .0) = d .distance2 .ensures in
     rw (
-      ← n .ensures,
-      ← d .ensures,
-      lt-ltb (d .result) (n .result) (omega (arith, s .if1 .left)),
+      ← all,
+      ← away,
+      lt-ltb (d .distance2 .result) (d .before .distance .result) (omega (arith, s .if1 .left)),
       c .before .messages-of .ensures,
     )
 
