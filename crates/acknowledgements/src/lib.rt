@@ -10,7 +10,7 @@ ghost use Rattle.card.specs.Card.{acknowledged, readAcks};
 fn acknowledge(card: Card, start: FrameNo, count: u8) -> Stepped
     ensures { λ r. ⌜ r ≡ record { card = acknowledged card (start .0) count; refusal = 0 } ⌝ }
 {
-    let window = card.window.acknowledge(start, count);
+    let window = releasing::acknowledge(card.window, start, count);
     let base = window.base;
     let mut next = card;
     next.window = window;

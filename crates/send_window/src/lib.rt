@@ -1,10 +1,10 @@
 // The card's sealed frames as a window: which are released, which acknowledged, which held. Assumes nothing of the state, which
-// may be one that no run reaches. It promises what specs/Window.antt says.
+// may be one that no run reaches. It promises what specs/Window.antt says, where releasing is defined too, which the crate
+// releasing does.
 use marks::word64;
 use seq::FrameNo;
 ghost use mathlib.Core.Path.{_≡_};
 ghost use mathlib.Core.Bool.{Bool, true, false};
-ghost use Rattle.marks.specs.Marks.{marksOf};
 ghost use Rattle.send_window.specs.Window.{
   emptyWindow,
   unreleased,
@@ -12,9 +12,6 @@ ghost use Rattle.send_window.specs.Window.{
   beforeHeld,
   sizeOf,
   sealing,
-  acknowledgedBy,
-  releasing,
-  acknowledging,
 };
 
 // Bit i of acked stands for the frame base + i and is set where that is acknowledged. The frame n is in slot n modulo 64 and has
@@ -93,59 +90,5 @@ impl SendWindow {
             base,
             sizes,
         }
-    }
-
-    // Whether the frame base + i is acknowledged once the count numbers from start on are.
-    fn is_acknowledged(self, start: FrameNo, count: u8, i: u16) -> bool
-        ensures { λ r. ⌜ r ≡ acknowledgedBy self (start .0) count i ⌝ }
-    {
-        if word64::is_marked(self.acked, i as u32) {
-            return true;
-        }
-        if self.unreleased() <= i {
-            return false;
-        }
-        let base = self.base;
-        let n = base.advance(i);
-        n.distance(start) < count as u16
-    }
-
-    // Marks of the frames acknowledged then.
-    fn acknowledged(self, start: FrameNo, count: u8) -> u64
-        ensures { λ r. ⌜ r ≡ marksOf 64 (acknowledgedBy self (start .0) count) ⌝ }
-    {
-        let mut acked: u64 = 0;
-        let mut i: u16 = 0;
-        while i < 64 {
-            if self.is_acknowledged(start, count, i) {
-                acked = word64::with_mark(acked, i as u32);
-            }
-            i += 1;
-        }
-        acked
-    }
-
-    // The window past every frame that is acknowledged together with all before it.
-    fn release(self, acked: u64) -> SendWindow
-        ensures { λ r. ⌜ r ≡ releasing self acked ⌝ }
-    {
-        let run = word64::leading_ones(acked);
-        let next = self.next;
-        let base = self.base;
-        let sizes = self.sizes;
-        SendWindow {
-            acked: word64::shifted(acked, run),
-            next,
-            base: base.advance(run as u16),
-            sizes,
-        }
-    }
-
-    // The window after an arriving acknowledgement of the count numbers from start on.
-    pub fn acknowledge(self, start: FrameNo, count: u8) -> SendWindow
-        ensures { λ r. ⌜ r ≡ acknowledging self (start .0) count ⌝ }
-    {
-        let acked = self.acknowledged(start, count);
-        self.release(acked)
     }
 }

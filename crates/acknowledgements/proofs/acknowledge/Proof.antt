@@ -8,7 +8,7 @@ use Rattle.acknowledgements.proofs.acknowledge.Statement.{statement}
 use Rattle.acknowledgements.proofs.acknowledge.Tie as tie
 use Rattle.acknowledgements.proofs.acknowledge.Reads as reads
 use Rattle.acknowledgements.proofs.acknowledge.Lts as lts
-use Rattle.send_window.proofs.SendWindow.acknowledge.Reads as acknowledge-reads
+use Rattle.releasing.proofs.acknowledge.Reads as acknowledge-reads
 use Rattle.finishing.proofs.finish.Reads as finish-reads
 
 acknowledge-requires : tie.Need-acknowledge-requires

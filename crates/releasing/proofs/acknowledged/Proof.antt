@@ -1,4 +1,4 @@
--- `SendWindow::acknowledged`: mark by mark, the marks of the frames looked at so far.
+-- `releasing::acknowledged`: mark by mark, the marks of the frames looked at so far.
 -- Assumes nothing.
 use mathlib.Core.Path.{sym, _∙_}
 use mathlib.Core.Logic.{⊎-elim}
@@ -6,19 +6,19 @@ use Prim.Native.Nat.{_-_}
 use native.Mathlib.Omega.{arith}
 use borrow.Author.Needs.{needs}
 use Rattle.marks.proofs.Marks.{MarkedUpTo, none-marked, one-more, all-marked}
 use Rattle.send_window.specs.Window.{acknowledgedBy}
-use Rattle.send_window.proofs.SendWindow.acknowledged.Statement.{statement}
-use Rattle.send_window.proofs.SendWindow.acknowledged.Tie as tie
-use Rattle.send_window.proofs.SendWindow.acknowledged.Reads as reads
-use Rattle.send_window.proofs.SendWindow.acknowledged.Lts as lts
+use Rattle.releasing.proofs.acknowledged.Statement.{statement}
+use Rattle.releasing.proofs.acknowledged.Tie as tie
+use Rattle.releasing.proofs.acknowledged.Reads as reads
+use Rattle.releasing.proofs.acknowledged.Lts as lts
 use Rattle.marks.proofs.word64.with_mark.Reads as with-mark-reads
-use Rattle.send_window.proofs.SendWindow.is_acknowledged.Reads as is-acknowledged-reads
+use Rattle.releasing.proofs.is_acknowledged.Reads as is-acknowledged-reads
 
 abbrev Inv-loop : tie.InvT-loop
-Inv-loop self start count acked₀ i₀ acked i = MarkedUpTo 64 (acknowledgedBy self (start .0) count) i acked
+Inv-loop w start count acked₀ i₀ acked i = MarkedUpTo 64 (acknowledgedBy w (start .0) count) i acked
 
 abbrev μ-loop : tie.MeasureT-loop
-μ-loop self start count acked₀ i₀ acked i = 64 - i
+μ-loop w start count acked₀ i₀ acked i = 64 - i
 
 loop-holds : tie.Need-loop-holds Inv-loop μ-loop
 loop-holds c = none-marked 64 _

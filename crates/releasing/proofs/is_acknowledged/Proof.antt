@@ -1,15 +1,15 @@
--- `SendWindow::is_acknowledged`: the mark, or the range where the frame is sealed.
+-- `releasing::is_acknowledged`: the mark, or the range where the frame is sealed.
 -- Assumes nothing.
 use native.Mathlib.Omega.{arith}
 use borrow.Author.Tests.{lt-ltb, le-ltb}
 use Rattle.send_window.specs.Window.{acknowledgedBy}
 use borrow.Author.Needs.{needs}
-use Rattle.send_window.proofs.SendWindow.is_acknowledged.Statement.{statement}
-use Rattle.send_window.proofs.SendWindow.is_acknowledged.Tie as tie
-use Rattle.send_window.proofs.SendWindow.is_acknowledged.Reads as reads
-use Rattle.send_window.proofs.SendWindow.is_acknowledged.Lts as lts
+use Rattle.releasing.proofs.is_acknowledged.Statement.{statement}
+use Rattle.releasing.proofs.is_acknowledged.Tie as tie
+use Rattle.releasing.proofs.is_acknowledged.Reads as reads
+use Rattle.releasing.proofs.is_acknowledged.Lts as lts
 use Rattle.marks.proofs.word64.is_marked.Reads as is-marked-reads
 use Rattle.send_window.proofs.SendWindow.unreleased.Reads as unreleased-reads
 use Rattle.seq.proofs.FrameNo.advance.Reads as advance-reads
 use Rattle.seq.proofs.FrameNo.distance.Reads as distance-reads
 
