@@ -1,13 +1,15 @@
 -- What receiving a frame whose header is in order comes to, case by case.
 -- Assumes nothing.
 use mathlib.Core.Path.{_≡_, refl, sym, ap, _∙_}
-use mathlib.Core.Logic.{_≢_}
+use mathlib.Core.Logic.{_≢_, _⊎_, ⊎-elim}
 use mathlib.Core.Bool.{true, false}
 use mathlib.Core.List.{List}
 use mathlib.Core.Option.{Option, none, some}
 use Prim.Native.Nat.{ℕ, _≤_, _<_}
 use native.Mathlib.Nat.{zero-add}
+use native.Mathlib.Decide.{decLe}
 use native.Mathlib.Omega.{arith}
+use borrow.Author.Tests.{le-leb, lt-leb, lt-ltb, le-ltb}
 use lib.ListN.{length, replicate}
 use Rattle.marks.specs.Marks.{mark}
 use Rattle.wire.specs.Format.{Message}
@@ -31,7 +33,6 @@ use Rattle.host.specs.Host.{
 }
 use Rattle.host.proofs.Receiving.{
   reading,
-  received-refused,
   received-bad,
   received-good,
   numbered-behind,
@@ -39,13 +40,14 @@ use Rattle.host.proofs.Receiving.{
   numbered-again,
   numbered-new,
 }
+use Rattle.receive_window.specs.Answers.{acceptedPair, stepped, refusedWith, numberAnswered}
 use Rattle.judging.specs.declared.Judged.{Judged}
 use Rattle.judging.specs.declared.Closing.{Closing}
 use Rattle.judging.specs.Judging.{noneJudged, leftBy, judgedFrom, judgedOf, closingOf}
 use Rattle.judging.proofs.Judging.{judged-short, closing-short}
 use Rattle.depositing.specs.Depositing.{writtenFrom, writtenOf}
 use Rattle.depositing.proofs.Depositing.{written-short, written-alike}
-use Rattle.reception.specs.Reception.{Awaited, acceptedPair, refusedWith}
+use Rattle.reception.specs.Reception.{Awaited}
 use Rattle.reception.proofs.Dues.{allDue, all-noted}
 use Rattle.reception.proofs.Passes.{
   tallyBy,
@@ -78,29 +80,34 @@ module _ (p : Pair) (f memory : List ℕ) (num d : ℕ) (w : Awaited p f num d) 
         received-good p f memory ms q (λ z. omega (arith, z, w .flag)) ∙ ap (λ (n : ℕ). numbered p memory n ms) (sym (w .num-is)),
       )
 
-  -- an old number: the layout's refusal, or by where the number lies
-  pub old-cut : (r : ℕ) → r ≡ refusalOf (reading p f memory) → r ≢ 0 → receiveOf p f memory ≡ unchanged p memory (refused r 0)
-  old-cut r e ne = received-refused p f memory r e ne
-
-  abbrev pub Answered : Answer → Type 0
-  Answered a = receiveOf p f memory ≡ unchanged p memory a
-
-  by-messages : (a : Answer) → refusalOf (reading p f memory) ≡ 0
-      → ((ms : List Message) → numbered p memory num ms ≡ unchanged p memory a) → Answered a
-  by-messages a z g = go (messagesFrom (length f) f 10) refl
+  -- behind, ahead or accepted already: the layout's refusal, or by where the number lies; memory is not touched
+  pub by-number : (64 ≤ d) ⊎ (mark (p .marks) d ≡ true)
+      → (numberAnswered p f num d ≡ steppedOf (receiveOf p f memory)) × (memory ≡ receiveOf p f memory .memory)
+  unfolding numberAnswered
+  by-number old = cut (messagesFrom (length f) f 10) refl
     where
-      go : (r : Option (List Message)) → messagesFrom (length f) f 10 ≡ r → Answered a
-      go none e = absurd (omega (arith, awaited-cut e .0))
-      go (some ms) e = awaited-some ms e .1 ∙ g ms
+      Settled : Type 0
+      Settled = (numberAnswered p f num d ≡ steppedOf (receiveOf p f memory)) × (memory ≡ receiveOf p f memory .memory)
 
-  pub old-behind : refusalOf (reading p f memory) ≡ 0 → 32768 ≤ d → Answered (Again (record { 0 = num }))
-  old-behind z h = by-messages _ z (λ ms. numbered-behind p memory num d ms (w .d-is) h)
+      settled : (a : Answer) → receiveOf p f memory ≡ unchanged p memory a → numberAnswered p f num d ≡ stepped p a → Settled
+      settled a e s = (s ∙ sym (ap steppedOf e), sym (ap (λ (r : Received). r .memory) e))
 
-  pub old-ahead : refusalOf (reading p f memory) ≡ 0 → 64 ≤ d → d < 32768 → Answered (refused 6 0)
-  old-ahead z h k = by-messages _ z (λ ms. numbered-ahead p memory num d ms (w .d-is) h k)
+      lies : (ms : List Message) → messagesFrom (length f) f 10 ≡ some ms → Dec (32768 ≤ d) → Dec (64 ≤ d) → Settled
+      lies ms e (yes h) _ =
+          settled (Again (record { 0 = num })) (awaited-some ms e .1 ∙ numbered-behind p memory num d ms (w .d-is) h)
+          (rw (awaited-some ms e .0, le-leb 32768 d h))
+      lies ms e (no h) (yes k) =
+          settled (refused 6 0) (awaited-some ms e .1 ∙ numbered-ahead p memory num d ms (w .d-is) k (omega (arith, h)))
+          (rw (awaited-some ms e .0, lt-leb 32768 d (omega (arith, h)), le-ltb d 64 k))
+      lies ms e (no h) (no k) =
+          let m = ⊎-elim (λ far. absurd (omega (arith, far, k))) (λ m. m) old in
+          settled (Again (record { 0 = num }))
+          (awaited-some ms e .1 ∙ numbered-again p memory num d ms (w .d-is) (omega (arith, k)) m)
+          (rw (awaited-some ms e .0, lt-leb 32768 d (omega (arith, h)), lt-ltb d 64 (omega (arith, k))))
 
-  pub old-again : refusalOf (reading p f memory) ≡ 0 → d < 64 → mark (p .marks) d ≡ true → Answered (Again (record { 0 = num }))
-  old-again z h m = by-messages _ z (λ ms. numbered-again p memory num d ms (w .d-is) h m)
+      cut : (r : Option (List Message)) → messagesFrom (length f) f 10 ≡ r → Settled
+      cut none e = settled (refused 5 0) (awaited-cut e .1) (rw (awaited-cut e .0))
+      cut (some ms) e = lies ms e (decLe 32768 d) (decLe 64 d)
 
   -- a new number: its messages taken in, or refused
   module _ (new : d < 64) (clear : mark (p .marks) d ≡ false) where

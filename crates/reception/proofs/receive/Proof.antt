@@ -14,14 +14,15 @@ use Rattle.host.specs.declared.Pair.{Pair}
 use Rattle.host.specs.Host.{Received, steppedOf}
 use Rattle.reception.specs.Reception.{Awaited}
 use Rattle.host.proofs.Receiving.{received-bad, received-empty}
+use Rattle.reception.proofs.Receiving.{by-number}
 use borrow.Author.Needs.{needs}
 use Rattle.reception.proofs.receive.Statement.{statement}
 use Rattle.reception.proofs.receive.Tie as tie
 use Rattle.reception.proofs.receive.Reads as reads
 use Rattle.reception.proofs.receive.Lts as lts
-use Rattle.reception.proofs.answer_old.Reads as answer-old-reads
+use Rattle.receive_window.proofs.answer_by_number.Reads as answer-by-number-reads
 use Rattle.judging.proofs.judge_closing.Reads as judge-closing-reads
-use Rattle.reception.proofs.refusing.Reads as refusing-reads
+use Rattle.receive_window.proofs.refusing.Reads as refusing-reads
 use Rattle.reception.proofs.take_closing.Reads as take-closing-reads
 use Rattle.reception.proofs.take_in.Reads as take-in-reads
 use Rattle.marks.proofs.word64.is_marked.Reads as is-marked-reads
@@ -74,8 +75,8 @@ returns-2 c =
 distance-requires : tie.Need-distance-requires
 distance-requires c κs = search needs
 
-answer-old-requires : tie.Need-answer-old-requires
-answer-old-requires c κs = search needs
+answer-by-number-requires : tie.Need-answer-by-number-requires
+answer-by-number-requires c κs = search needs
 
 returns-3 : tie.Need-returns-3
 returns-3 c =
@@ -86,7 +87,8 @@ returns-3 c =
     let h = heading-stands _ (a .f .now) _ (headed .before .heading-refusal .ensures) (headed .if1 .left) in
     let w = awaited (a .pair) (a .f .now) h _ (flagged .before .before .frame-header .ensures) (flagged .if2 .left) _
     (near .before .distance .ensures) in
-    c .answer-old .ensures (a .memory .now) w (inl (near .if3 .taken))
+    let r = by-number (a .pair) (a .f .now) (a .memory .now) _ _ w (inl (near .if3 .taken)) in
+    (c .answer-by-number .ensures ∙ r .0, r .1)
 
 cast-is-marked : tie.Need-cast-is-marked
 cast-is-marked c = search needs
@@ -94,8 +96,8 @@ cast-is-marked c = search needs
 is-marked-requires : tie.Need-is-marked-requires
 is-marked-requires c κs = search needs
 
-answer-old-requires-2 : tie.Need-answer-old-requires-2
-answer-old-requires-2 c κs = search needs
+answer-by-number-requires-2 : tie.Need-answer-by-number-requires-2
+answer-by-number-requires-2 c κs = search needs
 
 returns-4 : tie.Need-returns-4
 returns-4 c =
@@ -107,7 +109,8 @@ returns-4 c =
     let h = heading-stands _ (a .f .now) _ (headed .before .heading-refusal .ensures) (headed .if1 .left) in
     let w = awaited (a .pair) (a .f .now) h _ (flagged .before .before .frame-header .ensures) (flagged .if2 .left) _
     (near .before .distance .ensures) in
-    c .answer-old2 .ensures (a .memory .now) w (inr (sym (marked .before .is-marked .ensures) ∙ marked .if4 .taken))
+    let r = by-number (a .pair) (a .f .now) (a .memory .now) _ _ w (inr (sym (marked .before .is-marked .ensures) ∙ marked .if4 .taken)) in
+    (c .answer-by-number2 .ensures ∙ r .0, r .1)
 
 judge-closing-requires : tie.Need-judge-closing-requires
 judge-closing-requires c κs = search needs
@@ -161,11 +164,11 @@ receive-spec =
     frame-header-requires
     returns-2
     distance-requires
-    answer-old-requires
+    answer-by-number-requires
     returns-3
     cast-is-marked
     is-marked-requires
-    answer-old-requires-2
+    answer-by-number-requires-2
     returns-4
     judge-closing-requires
     take-closing-requires

@@ -8,7 +8,7 @@ use Rattle.reception.proofs.take_closing.Statement.{statement}
 use Rattle.reception.proofs.take_closing.Tie as tie
 use Rattle.reception.proofs.take_closing.Reads as reads
 use Rattle.reception.proofs.take_closing.Lts as lts
-use Rattle.reception.proofs.accept.Reads as accept-reads
+use Rattle.receive_window.proofs.accept.Reads as accept-reads
 use Rattle.depositing.proofs.write_all.Reads as write-all-reads
 
 write-all-requires : tie.Need-write-all-requires

@@ -8,9 +8,9 @@ use Rattle.reception.proofs.take_in.Statement.{statement}
 use Rattle.reception.proofs.take_in.Tie as tie
 use Rattle.reception.proofs.take_in.Reads as reads
 use Rattle.reception.proofs.take_in.Lts as lts
-use Rattle.reception.proofs.accept.Reads as accept-reads
+use Rattle.receive_window.proofs.accept.Reads as accept-reads
 use Rattle.judging.proofs.judge_all.Reads as judge-all-reads
-use Rattle.reception.proofs.refuse.Reads as refuse-reads
+use Rattle.receive_window.proofs.refuse.Reads as refuse-reads
 use Rattle.depositing.proofs.write_all.Reads as write-all-reads
 
 judge-all-requires : tie.Need-judge-all-requires

@@ -1,14 +1,14 @@
--- `reception::refuse`: the layout's refusal, or the message's.
+-- `receive_window::refuse`: the layout's refusal, or the message's.
 -- Assumes nothing.
 use mathlib.Core.Path.{_∙_}
 use borrow.Author.Tests.{eq-eqb, ne-eqb}
-use Rattle.reception.specs.Reception.{refusedWith}
+use Rattle.receive_window.specs.Answers.{refusedWith}
 use borrow.Author.Needs.{needs}
-use Rattle.reception.proofs.refuse.Statement.{statement}
-use Rattle.reception.proofs.refuse.Tie as tie
-use Rattle.reception.proofs.refuse.Reads as reads
-use Rattle.reception.proofs.refuse.Lts as lts
-use Rattle.reception.proofs.refusing.Reads as refusing-reads
+use Rattle.receive_window.proofs.refuse.Statement.{statement}
+use Rattle.receive_window.proofs.refuse.Tie as tie
+use Rattle.receive_window.proofs.refuse.Reads as reads
+use Rattle.receive_window.proofs.refuse.Lts as lts
+use Rattle.receive_window.proofs.refusing.Reads as refusing-reads
 use Rattle.layout.proofs.refusal_of.Reads as refusal-of-reads
 
 refusal-of-requires : tie.Need-refusal-of-requires

@@ -1,13 +1,13 @@
--- `reception::accept`: the mark and the move of the frame window.
+-- `receive_window::accept`: the mark and the move of the frame window.
 -- Assumes nothing.
 use native.Mathlib.Omega.{arith}
 use Rattle.host.specs.Host.{accepting}
 use Rattle.marks.proofs.Marks.{ones-le}
 use borrow.Author.Needs.{needs}
-use Rattle.reception.proofs.accept.Statement.{statement}
-use Rattle.reception.proofs.accept.Tie as tie
-use Rattle.reception.proofs.accept.Reads as reads
-use Rattle.reception.proofs.accept.Lts as lts
+use Rattle.receive_window.proofs.accept.Statement.{statement}
+use Rattle.receive_window.proofs.accept.Tie as tie
+use Rattle.receive_window.proofs.accept.Reads as reads
+use Rattle.receive_window.proofs.accept.Lts as lts
 use Rattle.marks.proofs.word64.leading_ones.Reads as leading-ones-reads
 use Rattle.marks.proofs.word64.shifted.Reads as shifted-reads
 use Rattle.marks.proofs.word64.with_mark.Reads as with-mark-reads
