@@ -17,11 +17,11 @@ use Rattle.transactions.specs.declared.Open.{Open}
 use Rattle.transactions.specs.declared.Verdict.{Verdict}
 use Rattle.transactions.specs.Transactions.{free, after}
 use Rattle.judging.specs.declared.Judged.{Judged}
-use Rattle.judging.specs.declared.Closing.{Closing}
-use Rattle.judging.specs.Judging.{notedOf, judgedOn, judgedFrom, closes, noneClosing, closingOn, closingFrom}
-use Rattle.judging.proofs.Judging.{
-  judged-last,
-  judged-more,
+use Rattle.judging.specs.Judging.{notedOf, judgedOn, judgedFrom}
+use Rattle.judging.proofs.Judging.{judged-last, judged-more}
+use Rattle.closing.specs.declared.Closing.{Closing}
+use Rattle.closing.specs.Closing.{closes, noneClosing, closingOn, closingFrom}
+use Rattle.closing.proofs.Walk.{
   closing-verdict,
   closes-parts,
   closing-past,
@@ -60,7 +60,7 @@ module _ (f : List ℕ) (size : ℕ) (table : List Open) (at : ℕ) (c : Closing
   abbrev cv : Verdict
   cv = closing-verdict f size table at c
 
-  parts : (cv .refusal ≡ 0) × (cv .done ≡ true) × (cv .slot ≡ getD table (messageAt f at .trans % 32) free)
+  parts : (cv .refusal ≡ 0) × (cv .done ≡ true) × (cv .place ≡ getD table (messageAt f at .trans % 32) free)
   parts = closes-parts cv (getD table (messageAt f at .trans % 32) free) yes′
 
   due-on : List ℕ
@@ -69,7 +69,7 @@ module _ (f : List ℕ) (size : ℕ) (table : List Open) (at : ℕ) (c : Closing
   closed-on : judgedOn (judgedBy c table due) (messageAt f at) cv ≡ judgedBy (closingOn c (messageAt f at) cv) table due-on
   unfolding judgedOn closingOn after due-on
   closed-on =
-      let stays : set table (messageAt f at .trans % 32) (cv .slot) ≡ table =
+      let stays : set table (messageAt f at .trans % 32) (cv .place) ≡ table =
       rw (parts .2) (set-getD table (messageAt f at .trans % 32) free) in
       let one : cond {A = ℕ} (cv .done) 1 0 ≡ 1 = rw (parts .1) in
       rw (stays, one)

@@ -42,9 +42,11 @@ use Rattle.host.proofs.Receiving.{
 }
 use Rattle.receive_window.specs.Answers.{acceptedPair, stepped, refusedWith, numberAnswered}
 use Rattle.judging.specs.declared.Judged.{Judged}
-use Rattle.judging.specs.declared.Closing.{Closing}
-use Rattle.judging.specs.Judging.{noneJudged, leftBy, judgedFrom, judgedOf, closingOf}
-use Rattle.judging.proofs.Judging.{judged-short, closing-short}
+use Rattle.judging.specs.Judging.{noneJudged, leftBy, judgedFrom, judgedOf}
+use Rattle.judging.proofs.Judging.{judged-short}
+use Rattle.closing.specs.declared.Closing.{Closing}
+use Rattle.closing.specs.Closing.{closingOf}
+use Rattle.closing.proofs.Walk.{closing-short}
 use Rattle.depositing.specs.Depositing.{writtenFrom, writtenOf}
 use Rattle.depositing.proofs.Depositing.{written-short, written-alike}
 use Rattle.reception.specs.Reception.{Awaited}

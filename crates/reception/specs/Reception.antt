@@ -12,8 +12,8 @@ use Rattle.wire.specs.Reading.{number, flags, addressed}
 use Rattle.host.specs.declared.Pair.{Pair}
 use Rattle.host.specs.declared.Stepped.{Stepped}
 use Rattle.host.specs.Host.{transactionsOf, receiveOf, steppedOf}
-use Rattle.judging.specs.declared.Closing.{Closing}
-use Rattle.judging.specs.Judging.{closingOf}
+use Rattle.closing.specs.declared.Closing.{Closing}
+use Rattle.closing.specs.Closing.{closingOf}
 
 -- A frame with messages whose header is in order.
 pub record Awaited (p : Pair) (f : List ℕ) (num d : ℕ) : Type 0 where

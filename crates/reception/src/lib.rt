@@ -1,11 +1,11 @@
 // Receiving a frame: the pair and the frame go in with memory lent, and the answer comes back with the pair as it is then.
 // Nothing is written before the last message is judged. Assumes nothing. It promises answer, pair and every byte of memory as
 // host/specs/Host.antt, receiveOf, says.
+use closing::Closing;
 use host::Answer;
 use host::Pair;
 use host::Stepped;
 use host::Sums;
-use judging::Closing;
 use marks::word64;
 use seq::FrameNo;
 ghost use mathlib.Core.Path.{_≡_};
@@ -92,7 +92,7 @@ pub fn receive(pair: Pair, f: &[u8], memory: &mut [u8]) -> Stepped
     }
     let lowest = pair.lowest;
     let table = pair.table;
-    let all = judging::judge_closing(lowest, pair.closed, table, f, memory.len());
+    let all = closing::judge_closing(lowest, pair.closed, table, f, memory.len());
     if all.messages != 0 {
         return take_closing(pair, f, memory, number, all);
     }

@@ -46,7 +46,7 @@ fills o h = leb (needed (h .count)) (suc (o .received))
 -- The verdict on a message: refused and nothing changed; or its transaction is complete, so that it is closed and the window
 -- moves past consecutive closed ones; or it is open with one message more.
 unfoldable pub refusing : ℕ → ℕ → ℕ → Open → Verdict
-refusing r lowest closed o = record { refusal = r; done = false; lowest = record { 0 = lowest }; closed = closed; slot = o }
+refusing r lowest closed o = record { refusal = r; done = false; lowest = record { 0 = lowest }; closed = closed; place = o }
 
 unfoldable pub closing : ℕ → ℕ → ℕ → Verdict
 closing lowest closed d =
@@ -57,7 +57,7 @@ closing lowest closed d =
       done = true;
       lowest = record { 0 = advance transSpace lowest run };
       closed = marked / 2 ^ run;
-      slot = free;
+      place = free;
     }
 
 unfoldable pub holding : ℕ → ℕ → Open → MessageHeader → Verdict
@@ -66,7 +66,7 @@ holding lowest closed o h = record {
   done = false;
   lowest = record { 0 = lowest };
   closed = closed;
-  slot = record { count = h .count; target = h .target; value = h .value; received = suc (o .received) };
+  place = record { count = h .count; target = h .target; value = h .value; received = suc (o .received) };
 }
 
 abbrev pub decided : ℕ → ℕ → ℕ → ℕ → Open → MessageHeader → Verdict
@@ -96,5 +96,5 @@ unfoldable pub after : Transactions → Message → Verdict → Transactions
 after t m v = record {
   lowest = v .lowest .0;
   closed = v .closed;
-  table = set (t .table) (m .trans % 32) (v .slot);
+  table = set (t .table) (m .trans % 32) (v .place);
 }

@@ -9,17 +9,25 @@ ghost use Rattle.transactions.specs.Transactions.{
   termsRefusal,
   addressRefusal,
   firstOf,
+  closing,
   verdictOf,
 };
 
-// An open transaction: what its first message said of it, and how many were received. A place of the table that holds none is
-// all zeros. The wide fields come first: without padding the table is copied as one block.
+// An open transaction: what its first message said of it, and how many were received. The wide fields come first: without padding the table is copied as one block.
 pub struct Open {
     pub target: u32,
     pub value: u32,
     pub count: u16,
     pub received: u16,
 }
+
+// A place that holds no transaction.
+pub const FREE: Open = Open {
+    target: 0,
+    value: 0,
+    count: 0,
+    received: 0,
+};
 
 // The verdict on a message: its refusal, or 0; whether it completes its transaction; and the window and the transaction's place
 // after it.
@@ -28,7 +36,7 @@ pub struct Verdict {
     pub done: bool,
     pub lowest: TransNo,
     pub closed: u32,
-    pub slot: Open,
+    pub place: Open,
 }
 
 // Whether the header says what the transaction's first message said, if there was one.
@@ -91,6 +99,21 @@ fn first_refusal(d: u32, closed: u32, o: Open, h: MessageHeader, len: u16, size:
     terms
 }
 
+// The verdict on a message that completes its transaction, which lies d past the lowest one that is not complete.
+fn closed_after(lowest: TransNo, closed: u32, d: u32) -> Verdict
+    ensures { λ r. ⌜ r ≡ closing (lowest .0) closed d ⌝ }
+{
+    let marked = word32::with_mark(closed, d);
+    let run = word32::leading_ones(marked);
+    Verdict {
+        refusal: 0,
+        done: true,
+        lowest: lowest.advance(run),
+        closed: word32::shifted(marked, run),
+        place: FREE,
+    }
+}
+
 // The verdict on a message with len data bytes, against the window and the place of its transaction in the table, and a memory
 // of size bytes.
 pub fn judge(
@@ -112,35 +135,23 @@ pub fn judge(
             done: false,
             lowest,
             closed,
-            slot: o,
+            place: o,
         };
     }
     if h.count as u32 <= o.received as u32 + 1 {
-        let marked = word32::with_mark(closed, d);
-        let run = word32::leading_ones(marked);
-        return Verdict {
-            refusal: 0,
-            done: true,
-            lowest: lowest.advance(run),
-            closed: word32::shifted(marked, run),
-            slot: Open {
-                count: 0,
-                target: 0,
-                value: 0,
-                received: 0,
-            },
-        };
+        return closed_after(lowest, closed, d);
     }
+    let received = o.received + 1;
     Verdict {
         refusal: 0,
         done: false,
         lowest,
         closed,
-        slot: Open {
+        place: Open {
             count: h.count,
             target: h.target,
             value: h.value,
-            received: o.received + 1,
+            received,
         },
     }
 }

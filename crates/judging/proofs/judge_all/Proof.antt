@@ -23,24 +23,22 @@ use Rattle.judging.proofs.judge_all.Statement.{statement}
 use Rattle.judging.proofs.judge_all.Tie as tie
 use Rattle.judging.proofs.judge_all.Reads as reads
 use Rattle.judging.proofs.judge_all.Lts as lts
+use Rattle.judging.proofs.counted.Reads as counted-reads
 use Rattle.judging.proofs.noted.Reads as noted-reads
-use Rattle.judging.proofs.one_if.Reads as one-if-reads
 use Rattle.judging.proofs.passed.Reads as passed-reads
-use Rattle.judging.proofs.place_of.Reads as place-of-reads
 use Rattle.judging.proofs.refused_at.Reads as refused-at-reads
 use Rattle.reader.proofs.message_at.Reads as message-at-reads
 use Rattle.transactions.proofs.judge.Reads as judge-reads
 
 abbrev Inv-loop : tie.InvT-loop
-Inv-loop shut f size lowest₀ closed₀ table₀ due₀ messages₀ bytes₀ completed₀ at₀ lowest closed table due messages bytes completed
-    at =
-    Steady f at messages bytes completed table due
+Inv-loop shut f size lowest₀ closed₀ table₀ due₀ counts₀ at₀ lowest closed table due counts at =
+    Steady f at (counts .messages) (counts .bytes) (counts .completed) table due
     × Judging f size (record { lowest = lowest₀ .0; closed = closed₀; table = table₀ }) at
     (record {
       refusal = 0;
-      messages = messages;
-      bytes = bytes;
-      completed = completed;
+      messages = counts .messages;
+      bytes = counts .bytes;
+      completed = counts .completed;
       lowest = lowest;
       closed = closed;
       table = table;
@@ -48,9 +46,7 @@ Inv-loop shut f size lowest₀ closed₀ table₀ due₀ messages₀ bytes₀ co
     })
 
 abbrev μ-loop : tie.MeasureT-loop
-μ-loop shut f size lowest₀ closed₀ table₀ due₀ messages₀ bytes₀ completed₀ at₀ lowest closed table due messages bytes completed
-    at =
-    length f + 18 - at
+μ-loop shut f size lowest₀ closed₀ table₀ due₀ counts₀ at₀ lowest closed table due counts at = length f + 18 - at
 
 refused-at-requires : tie.Need-refused-at-requires Inv-loop μ-loop
 refused-at-requires c κs = search needs
@@ -85,14 +81,14 @@ returns-2 c =
 enum-known-found : tie.Need-enum-known-found Inv-loop μ-loop
 enum-known-found c = search needs
 
-place-of-requires : tie.Need-place-of-requires Inv-loop μ-loop
-place-of-requires c κs = search needs
+cast-s : tie.Need-cast-s Inv-loop μ-loop
+cast-s c = omega arith
 
 mul-judge : tie.Need-mul-judge Inv-loop μ-loop
-mul-judge c = omega (arith, c .place-of .ensures .1)
+mul-judge c = omega arith
 
 array-copy-out-judge : tie.Need-array-copy-out-judge Inv-loop μ-loop
-array-copy-out-judge c = omega (arith, c .place-of .ensures .1, c .before .before .before .before .before .loop .inv .0)
+array-copy-out-judge c = omega (arith, c .before .before .before .before .before .loop .inv .0)
 
 judge-requires : tie.Need-judge-requires Inv-loop μ-loop
 judge-requires c κs = search needs
@@ -105,92 +101,63 @@ returns-3 c =
     let here = c .before .before .before .before .before in
     let w = is-whole (sym (here .before .before .before .before .message-at .ensures) ∙ here .before .before .found .given .1) in
     c .refused-at3 .ensures
-    ∙ judging-stops (here .before .before .before .before .before .loop .inv .1) w (c .before .before .before .judge .ensures)
-    (here .place-of .ensures .0) (c .before .if2 .taken)
+    ∙ judging-stops (here .before .before .before .before .before .loop .inv .1) w (c .before .before .before .judge .ensures) (c .before .if2 .taken)
 
 mul-table : tie.Need-mul-table Inv-loop μ-loop
-mul-table c = omega (arith, c .before .before .before .before .before .before .place-of .ensures .1)
+mul-table c = omega arith
 
 array-set-from-table : tie.Need-array-set-from-table Inv-loop μ-loop
-array-set-from-table c =
-    let here = c .before .before .before .before .before .before in
-    omega (arith, here .place-of .ensures .1, here .before .before .before .before .before .loop .inv .0)
+array-set-from-table c = omega (arith, c .before .before .before .before .before .before .before .before .before .before .before .loop .inv .0)
 
 cast-w : tie.Need-cast-w Inv-loop μ-loop
 cast-w c = omega arith
 
 mul-noted : tie.Need-mul-noted Inv-loop μ-loop
-mul-noted c =
-    omega (arith, c .before .before .before .before .before .before .before .before .before .before .before .loop .inv .0)
+mul-noted c = omega (arith, c .before .before .before .before .before .before .before .before .before .before .before .before .loop .inv .0)
 
 array-read-noted : tie.Need-array-read-noted Inv-loop μ-loop
-array-read-noted c =
-    omega (arith, c .before .before .before .before .before .before .before .before .before .before .before .loop .inv .0)
+array-read-noted c = omega (arith, c .before .before .before .before .before .before .before .before .before .before .before .before .loop .inv .0)
 
 noted-requires : tie.Need-noted-requires Inv-loop μ-loop
 noted-requires c κs = search needs
 
 mul-due : tie.Need-mul-due Inv-loop μ-loop
-mul-due c =
-    omega (arith, c .before .before .before .before .before .before .before .before .before .before .before .before .loop .inv .0)
+mul-due c = omega (arith, c .before .before .before .before .before .before .before .before .before .before .before .before .before .before .loop .inv .0)
 
 array-write-due : tie.Need-array-write-due Inv-loop μ-loop
-array-write-due c =
-    omega (arith, c .before .before .before .before .before .before .before .before .before .before .before .before .loop .inv .0)
+array-write-due c = omega (arith, c .before .before .before .before .before .before .before .before .before .before .before .before .before .before .loop .inv .0)
 
-add-messages : tie.Need-add-messages Inv-loop μ-loop
-add-messages c =
-    omega (arith, c .before .before .before .before .before .before .before .before .before .before .before .before .loop .inv .0)
-
-cast-bytes : tie.Need-cast-bytes Inv-loop μ-loop
-cast-bytes c = search needs
-
-add-bytes : tie.Need-add-bytes Inv-loop μ-loop
-add-bytes c =
-    let here = c .before .before .before .before .before .before .before in
-    let w = is-whole (sym (here .before .before .before .before .message-at .ensures) ∙ here .before .before .found .given .1) in
-    omega (arith, here .before .before .before .before .before .loop .inv .0, w)
-
-one-if-requires : tie.Need-one-if-requires Inv-loop μ-loop
-one-if-requires c κs = search needs
-
-add-completed : tie.Need-add-completed Inv-loop μ-loop
-add-completed c =
-    omega (
-      arith,
-      c .before .before .before .before .before .before .before .before .before .before .before .before .before .loop .inv .0,
-      c .one-if .ensures .1,
-    )
+counted-requires : tie.Need-counted-requires Inv-loop μ-loop
+counted-requires c κs =
+    let k = c .before .before .before .before .before .before .before .before .before .before .before .before .before .before .loop .inv .0 in
+    (omega (arith, k), omega (arith, k), omega (arith, k))
 
 passed-requires : tie.Need-passed-requires Inv-loop μ-loop
 passed-requires c κs = search needs
 
 returns-4 : tie.Need-returns-4 Inv-loop μ-loop
 returns-4 c =
-    let here = c .before .before .before .before .before .before .before .before .before .before in
+    let here = c .before .before .before .before .before .before .before .before .before .before .before .before in
     let w = is-whole (sym (here .before .before .before .before .message-at .ensures) ∙ here .before .before .found .given .1) in
     c .passed .ensures
-    ∙ judging-ends (here .before .before .before .before .before .loop .inv .1) w
-    (c .before .before .before .before .before .before .before .before .judge .ensures)
-    (here .place-of .ensures .0) (c .before .before .before .before .before .before .if2 .left)
-    (c .before .before .before .noted .ensures)
-    (c .before .before .one-if .ensures .0) (not-true _ (c .before .if3 .taken))
+    ∙ rw (c .before .before .counted .ensures)
+    (judging-ends (here .before .before .before .before .before .loop .inv .1) w (c .before .before .before .before .before .before .before .before .before .before .judge .ensures) (c .before .before .before .before .before .before .before .before .if2 .left)
+    (c .before .before .before .noted .ensures) (not-true _ (c .before .if3 .taken)))
 
 loop-less : tie.Need-loop-less Inv-loop μ-loop
 loop-less c =
-    let here = c .before .before .before .before .before .before .before .before .before in
+    let here = c .before .before .before .before .before .before .before .before .before .before .before in
     let w = is-whole (sym (here .before .before .before .before .message-at .ensures) ∙ here .before .before .found .given .1) in
     omega (arith, here .before .before .before .before .before .loop .inv .0, w)
 
 loop-again : tie.Need-loop-again Inv-loop μ-loop
 loop-again c =
-    let here = c .before .before .before .before .before .before .before .before .before in
+    let here = c .before .before .before .before .before .before .before .before .before .before .before in
     let w = is-whole (sym (here .before .before .before .before .message-at .ensures) ∙ here .before .before .found .given .1) in
-    let k = here .before .before .before .before .before .loop in (
-      steady-set (k .inv .0) w _ _ _ _ (c .before .one-if .ensures .1),
-      judging-on (k .inv .1) w (c .before .before .before .before .before .before .before .judge .ensures)
-          (here .place-of .ensures .0)
-          (c .before .before .before .before .before .if2 .left) (c .before .before .noted .ensures) (c .before .one-if .ensures .0)
+    let k = here .before .before .before .before .before .loop in
+    rw (c .before .counted .ensures) (
+      steady-set (k .inv .0) w _ _ _ (c .before .before .before .before .before .before .before .before .before .judge .result .done),
+      judging-on (k .inv .1) w (c .before .before .before .before .before .before .before .before .before .judge .ensures) (c .before .before .before .before .before .before .before .if2 .left) (c .before .before .noted .ensures)
           (not-false _ (c .if3 .left)),
     )
 
@@ -208,7 +175,7 @@ judge-all-spec =
     refused-at-requires-2
     returns-2
     enum-known-found
-    place-of-requires
+    cast-s
     mul-judge
     array-copy-out-judge
     judge-requires
@@ -222,11 +189,7 @@ judge-all-spec =
     noted-requires
     mul-due
     array-write-due
-    add-messages
-    cast-bytes
-    add-bytes
-    one-if-requires
-    add-completed
+    counted-requires
     passed-requires
     returns-4
     loop-less

@@ -21,7 +21,7 @@ use Rattle.reception.proofs.receive.Tie as tie
 use Rattle.reception.proofs.receive.Reads as reads
 use Rattle.reception.proofs.receive.Lts as lts
 use Rattle.receive_window.proofs.answer_by_number.Reads as answer-by-number-reads
-use Rattle.judging.proofs.judge_closing.Reads as judge-closing-reads
+use Rattle.closing.proofs.judge_closing.Reads as judge-closing-reads
 use Rattle.receive_window.proofs.refusing.Reads as refusing-reads
 use Rattle.reception.proofs.take_closing.Reads as take-closing-reads
 use Rattle.reception.proofs.take_in.Reads as take-in-reads

@@ -1,19 +1,17 @@
 -- `transactions::judge`: the three verdicts.
 -- Assumes nothing.
+use mathlib.Core.Path.{_∙_}
 use native.Mathlib.Numerals.{add-one}
 use native.Mathlib.Omega.{arith}
-use Rattle.transactions.specs.Transactions.{refusing, closing, holding}
+use Rattle.transactions.specs.Transactions.{refusing, holding}
 use Rattle.transactions.proofs.Judging.{is-refused, is-closing, is-holding}
 use borrow.Author.Needs.{needs}
 use Rattle.transactions.proofs.judge.Statement.{statement}
 use Rattle.transactions.proofs.judge.Tie as tie
 use Rattle.transactions.proofs.judge.Reads as reads
 use Rattle.transactions.proofs.judge.Lts as lts
-use Rattle.marks.proofs.word32.leading_ones.Reads as leading-ones-reads
-use Rattle.marks.proofs.word32.shifted.Reads as shifted-reads
-use Rattle.marks.proofs.word32.with_mark.Reads as with-mark-reads
-use Rattle.seq.proofs.TransNo.advance.Reads as advance-reads
 use Rattle.seq.proofs.TransNo.distance.Reads as distance-reads
+use Rattle.transactions.proofs.closed_after.Reads as closed-after-reads
 use Rattle.transactions.proofs.first_refusal.Reads as first-refusal-reads
 
 distance-requires : tie.Need-distance-requires
@@ -38,28 +36,19 @@ cast-if2-2 c = search needs
 add-if2 : tie.Need-add-if2
 add-if2 c = search needs
 
-with-mark-requires : tie.Need-with-mark-requires
-with-mark-requires c κs = search needs
-
-leading-ones-requires : tie.Need-leading-ones-requires
-leading-ones-requires c κs = search needs
-
-advance-requires : tie.Need-advance-requires
-advance-requires c κs = search needs
-
-shifted-requires : tie.Need-shifted-requires
-shifted-requires c κs = search needs
+closed-after-requires : tie.Need-closed-after-requires
+closed-after-requires c κs = search needs
 
 returns-2 : tie.Need-returns-2
-unfolding closing
 returns-2 c =
-    let a = c .before .before .before .before .before .before .before .before .before .before .before .args in
-    rw (c .shifted .ensures, c .before .advance .ensures, c .before .before .leading-ones .ensures, c .before .before .before .with-mark .ensures)
-    (is-closing (a .lowest .0) (a .closed) (a .o) (a .h) (a .len) (a .size) _ _
-    (c .before .before .before .before .before .before .before .before .before .distance .ensures) (c .before .before .before .before .before .before .before .before .first-refusal .ensures) (c .before .before .before .before .before .before .before .if1 .left) (omega arith))
+    let passed = c .before .before .before .before in
+    let a = passed .before .before .before .before .args in
+    c .closed-after .ensures
+    ∙ is-closing (a .lowest .0) (a .closed) (a .o) (a .h) (a .len) (a .size) _ _
+    (passed .before .before .distance .ensures) (passed .before .first-refusal .ensures) (passed .if1 .left) (omega arith)
 
-add-t19 : tie.Need-add-t19
-add-t19 c = search needs
+add-received : tie.Need-add-received
+add-received c = search needs
 
 returns-3 : tie.Need-returns-3
 unfolding holding
@@ -79,10 +68,7 @@ judge-spec =
     cast-if2
     cast-if2-2
     add-if2
-    with-mark-requires
-    leading-ones-requires
-    advance-requires
-    shifted-requires
+    closed-after-requires
     returns-2
-    add-t19
+    add-received
     returns-3)

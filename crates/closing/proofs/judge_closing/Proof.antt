@@ -1,4 +1,4 @@
--- `judging::judge_closing` judges message by message, as the definition does, while the table stays as it is.
+-- `closing::judge_closing` judges message by message, as the definition does, while the table stays as it is.
 -- Assumes nothing.
 use mathlib.Core.Path.{_≡_, refl, sym, _∙_}
 use Prim.Native.Nat.{_+_, _-_}
@@ -7,7 +7,8 @@ use borrow.Author.Needs.{needs}
 use borrow.Author.Tests.{not-true, not-false}
 use lib.ListN.{length, replicate}
 use Rattle.reader.proofs.Finding.{is-whole}
-use Rattle.judging.proofs.Judging.{
+use Rattle.judging.proofs.Judging.{Steady, steady-start, steady-turn}
+use Rattle.closing.proofs.Walk.{
   closing-long,
   Finding,
   finding-start,
@@ -15,18 +16,12 @@ use Rattle.judging.proofs.Judging.{
   finding-stops,
   finding-ends,
   finding-on,
-  Steady,
-  steady-start,
-  steady-turn,
 }
-use Rattle.judging.proofs.judge_closing.Statement.{statement}
-use Rattle.judging.proofs.judge_closing.Tie as tie
-use Rattle.judging.proofs.judge_closing.Reads as reads
-use Rattle.judging.proofs.judge_closing.Lts as lts
-use Rattle.judging.proofs.leaves_no_trace.Reads as leaves-no-trace-reads
-use Rattle.judging.proofs.make_closing.Reads as make-closing-reads
-use Rattle.judging.proofs.none_closing.Reads as none-closing-reads
-use Rattle.judging.proofs.place_of.Reads as place-of-reads
+use Rattle.closing.proofs.judge_closing.Statement.{statement}
+use Rattle.closing.proofs.judge_closing.Tie as tie
+use Rattle.closing.proofs.judge_closing.Reads as reads
+use Rattle.closing.proofs.judge_closing.Lts as lts
+use Rattle.closing.proofs.leaves_no_trace.Reads as leaves-no-trace-reads
 use Rattle.reader.proofs.message_at.Reads as message-at-reads
 use Rattle.transactions.proofs.judge.Reads as judge-reads
 
@@ -39,13 +34,10 @@ Inv-loop shut f size table lowest₀ closed₀ messages₀ bytes₀ at₀ lowest
 abbrev μ-loop : tie.MeasureT-loop
 μ-loop shut f size table lowest₀ closed₀ messages₀ bytes₀ at₀ lowest closed messages bytes at = length f + 18 - at
 
-none-closing-requires : tie.Need-none-closing-requires Inv-loop μ-loop
-none-closing-requires c κs = search needs
-
 returns : tie.Need-returns Inv-loop μ-loop
 returns c =
-    let a = c .before .before .before .args in
-    c .none-closing .ensures ∙ closing-long (a .f .now) _ (a .size) (c .before .if1 .taken)
+    let a = c .before .before .args in
+    closing-long (a .f .now) _ (a .size) (c .if1 .taken)
 
 loop-holds : tie.Need-loop-holds Inv-loop μ-loop
 loop-holds c =
@@ -60,26 +52,22 @@ message-at-requires c κs = search needs
 enum-told : tie.Need-enum-told Inv-loop μ-loop
 enum-told c = search needs
 
-none-closing-requires-2 : tie.Need-none-closing-requires-2 Inv-loop μ-loop
-none-closing-requires-2 c κs = search needs
-
 returns-2 : tie.Need-returns-2 Inv-loop μ-loop
 returns-2 c =
-    c .none-closing2 .ensures
-    ∙ finding-past (c .before .before .before .before .loop .inv .1)
-    (sym (c .before .before .before .message-at .ensures) ∙ c .before .enum-told .given .1)
+    finding-past (c .before .before .before .loop .inv .1)
+    (sym (c .before .before .message-at .ensures) ∙ c .enum-told .given .1)
 
 enum-known-found : tie.Need-enum-known-found Inv-loop μ-loop
 enum-known-found c = search needs
 
-place-of-requires : tie.Need-place-of-requires Inv-loop μ-loop
-place-of-requires c κs = search needs
+cast-s : tie.Need-cast-s Inv-loop μ-loop
+cast-s c = omega arith
 
 mul-o : tie.Need-mul-o Inv-loop μ-loop
-mul-o c = omega (arith, c .place-of .ensures .1)
+mul-o c = omega arith
 
 array-copy-out-o : tie.Need-array-copy-out-o Inv-loop μ-loop
-array-copy-out-o c = omega (arith, c .place-of .ensures .1, c .before .before .before .before .before .loop .inv .0)
+array-copy-out-o c = omega (arith, c .before .before .before .before .before .loop .inv .0)
 
 judge-requires : tie.Need-judge-requires Inv-loop μ-loop
 judge-requires c κs = search needs
@@ -87,59 +75,46 @@ judge-requires c κs = search needs
 leaves-no-trace-requires : tie.Need-leaves-no-trace-requires Inv-loop μ-loop
 leaves-no-trace-requires c κs = search needs
 
-none-closing-requires-3 : tie.Need-none-closing-requires-3 Inv-loop μ-loop
-none-closing-requires-3 c κs = search needs
-
 returns-3 : tie.Need-returns-3 Inv-loop μ-loop
 returns-3 c =
-    let here = c .before .before .before .before .before in
+    let here = c .before .before .before .before in
     let w = is-whole (sym (here .before .before .before .before .message-at .ensures) ∙ here .before .before .found .given .1) in
-    c .none-closing3 .ensures
-    ∙ finding-stops (here .before .before .before .before .before .loop .inv .1) w (c .before .before .before .judge .ensures)
-    (here .place-of .ensures .0)
-    (c .before .before .leaves-no-trace .ensures) (not-true _ (c .before .if2 .taken))
+    finding-stops (here .before .before .before .before .before .loop .inv .1) w (c .before .before .judge .ensures) (c .before .leaves-no-trace .ensures)
+    (not-true _ (c .if2 .taken))
 
 add-messages : tie.Need-add-messages Inv-loop μ-loop
-add-messages c =
-    omega (arith, c .before .before .before .before .before .before .before .before .before .before .loop .inv .0)
+add-messages c = omega (arith, c .before .before .before .before .before .before .before .before .before .loop .inv .0)
 
 cast-bytes : tie.Need-cast-bytes Inv-loop μ-loop
 cast-bytes c = search needs
 
 add-bytes : tie.Need-add-bytes Inv-loop μ-loop
 add-bytes c =
-    let here = c .before .before .before .before .before in
+    let here = c .before .before .before .before in
     let w = is-whole (sym (here .before .before .before .before .message-at .ensures) ∙ here .before .before .found .given .1) in
     omega (arith, here .before .before .before .before .before .loop .inv .0, w)
 
-make-closing-requires : tie.Need-make-closing-requires Inv-loop μ-loop
-make-closing-requires c κs = search needs
-
 returns-4 : tie.Need-returns-4 Inv-loop μ-loop
 returns-4 c =
-    let here = c .before .before .before .before .before .before .before in
+    let here = c .before .before .before .before .before in
     let w = is-whole (sym (here .before .before .before .before .message-at .ensures) ∙ here .before .before .found .given .1) in
-    c .make-closing .ensures
-    ∙ finding-ends (here .before .before .before .before .before .loop .inv .1) w
-    (c .before .before .before .before .before .judge .ensures) (here .place-of .ensures .0)
-    (c .before .before .before .before .leaves-no-trace .ensures) (not-false _ (c .before .before .before .if2 .left))
-    (not-true _ (c .before .if3 .taken))
+    finding-ends (here .before .before .before .before .before .loop .inv .1) w (c .before .before .before .judge .ensures) (c .before .before .leaves-no-trace .ensures)
+    (not-false _ (c .before .if2 .left)) (not-true _ (c .if3 .taken))
 
 loop-less : tie.Need-loop-less Inv-loop μ-loop
 loop-less c =
-    let here = c .before .before .before .before .before .before in
+    let here = c .before .before .before .before .before in
     let w = is-whole (sym (here .before .before .before .before .message-at .ensures) ∙ here .before .before .found .given .1) in
     omega (arith, here .before .before .before .before .before .loop .inv .0, w)
 
 loop-again : tie.Need-loop-again Inv-loop μ-loop
 loop-again c =
-    let here = c .before .before .before .before .before .before in
+    let here = c .before .before .before .before .before in
     let w = is-whole (sym (here .before .before .before .before .message-at .ensures) ∙ here .before .before .found .given .1) in
     let k = here .before .before .before .before .before .loop in (
       steady-turn (k .inv .0) w 1 _ _ (omega arith) refl refl,
-      finding-on (k .inv .1) w (c .before .before .before .before .judge .ensures) (here .place-of .ensures .0)
-          (c .before .before .before .leaves-no-trace .ensures) (not-false _ (c .before .before .if2 .left))
-          (not-false _ (c .if3 .left)),
+      finding-on (k .inv .1) w (c .before .before .before .judge .ensures) (c .before .before .leaves-no-trace .ensures)
+          (not-false _ (c .before .if2 .left)) (not-false _ (c .if3 .left)),
     )
 
 pub judge-closing-spec : {M : Type 1} → statement M
@@ -148,25 +123,21 @@ judge-closing-spec =
     (tie.spec
     Inv-loop
     μ-loop
-    none-closing-requires
     returns
     loop-holds
     message-at-requires
     enum-told
-    none-closing-requires-2
     returns-2
     enum-known-found
-    place-of-requires
+    cast-s
     mul-o
     array-copy-out-o
     judge-requires
     leaves-no-trace-requires
-    none-closing-requires-3
     returns-3
     add-messages
     cast-bytes
     add-bytes
-    make-closing-requires
     returns-4
     loop-less
     loop-again)

@@ -1,11 +1,11 @@
--- `judging::is_same`: field by field.
+-- `closing::is_same`: field by field.
 -- Assumes nothing.
 use borrow.Author.Tests.{eq-eqb, ne-eqb}
-use Rattle.judging.specs.Judging.{sameOpen}
-use Rattle.judging.proofs.is_same.Statement.{statement}
-use Rattle.judging.proofs.is_same.Tie as tie
-use Rattle.judging.proofs.is_same.Reads as reads
-use Rattle.judging.proofs.is_same.Lts as lts
+use Rattle.closing.specs.Closing.{sameOpen}
+use Rattle.closing.proofs.is_same.Statement.{statement}
+use Rattle.closing.proofs.is_same.Tie as tie
+use Rattle.closing.proofs.is_same.Reads as reads
+use Rattle.closing.proofs.is_same.Lts as lts
 
 returns : tie.Need-returns
 unfolding sameOpen

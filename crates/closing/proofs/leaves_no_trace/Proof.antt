@@ -1,15 +1,15 @@
--- `judging::leaves_no_trace`: not refused, complete, and the place as it was.
+-- `closing::leaves_no_trace`: not refused, complete, and the place as it was.
 -- Assumes nothing.
 use mathlib.Core.Path.{_≡_}
 use mathlib.Core.Bool.{true, false}
 use borrow.Author.Tests.{eq-eqb, ne-eqb, not-true, not-false}
 use borrow.Author.Needs.{needs}
-use Rattle.judging.specs.Judging.{closes}
-use Rattle.judging.proofs.leaves_no_trace.Statement.{statement}
-use Rattle.judging.proofs.leaves_no_trace.Tie as tie
-use Rattle.judging.proofs.leaves_no_trace.Reads as reads
-use Rattle.judging.proofs.leaves_no_trace.Lts as lts
-use Rattle.judging.proofs.is_same.Reads as is-same-reads
+use Rattle.closing.specs.Closing.{closes}
+use Rattle.closing.proofs.leaves_no_trace.Statement.{statement}
+use Rattle.closing.proofs.leaves_no_trace.Tie as tie
+use Rattle.closing.proofs.leaves_no_trace.Reads as reads
+use Rattle.closing.proofs.leaves_no_trace.Lts as lts
+use Rattle.closing.proofs.is_same.Reads as is-same-reads
 
 returns : tie.Need-returns
 unfolding closes
