@@ -1,9 +1,19 @@
-// A lent buffer as a whole: filled with one byte, and its digest (FNV-1a, 64 bits), by which two buffers are compared in a line.
-// Assumes nothing. It promises specs/Digest.antt.
+// A lent buffer as a whole: its first bytes, the buffer filled with one byte, and its digest (FNV-1a, 64 bits), by which two buffers are
+// compared in a line. Assumes nothing. It promises specs/Digest.antt.
 ghost use mathlib.Core.Path.{_≡_};
 ghost use Prim.Native.Nat.{_*_, _%_, _^_};
-ghost use lib.ListN.{length, replicate};
+ghost use lib.ListN.{length, replicate, take};
 ghost use Rattle.buffer.specs.Digest.{prime, digestOf};
+
+// So many bytes from the start, or all where there are fewer.
+pub fn front(s: &[u8], len: usize) -> &[u8]
+    ensures { λ r. ⌜ now r ≡ take len (now (s .entry)) ⌝ }
+{
+    if s.len() < len {
+        return s;
+    }
+    &s[..len]
+}
 
 // Every byte becomes b.
 pub fn fill(memory: &mut [u8], b: u8)

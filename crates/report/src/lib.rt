@@ -7,7 +7,6 @@ use host::Refusal;
 use host::Stepped;
 ghost use mathlib.Core.Path.{_≡_};
 ghost use mathlib.Core.List.{[], _∷_};
-ghost use lib.ListN.{take};
 ghost use Rattle.answer_line.specs.AnswerLine.{lineEnd, withLine};
 ghost use Rattle.host.specs.Host.{steppedOf};
 ghost use Rattle.report.specs.Report.{answeredLine, letterOf, numbersOf, totalled};
@@ -17,15 +16,6 @@ pub struct Totals {
     pub messages: u64,
     pub bytes: u64,
     pub completed: u64,
-}
-
-fn front(frame: &[u8], len: usize) -> &[u8]
-    ensures { λ r. ⌜ now r ≡ take len (now (frame .entry)) ⌝ }
-{
-    if frame.len() < len {
-        return frame;
-    }
-    &frame[..len]
 }
 
 // Answers a line that has ended, its bytes at the start of frame.
@@ -42,7 +32,7 @@ pub fn answer_line(pair: Pair, line: Line, frame: &[u8], memory: &mut [u8]) -> S
             }),
         };
     }
-    reception::receive(pair, front(frame, line.len), memory)
+    reception::receive(pair, buffer::front(frame, line.len), memory)
 }
 
 // Writes an answer's line into out from at on, and answers the index behind it; where it does not fit, nothing is written and the

@@ -9,21 +9,18 @@ use Rattle.calls.proofs.read_all.Statement.{statement}
 use Rattle.calls.proofs.read_all.Tie as tie
 use Rattle.calls.proofs.read_all.Reads as reads
 use Rattle.calls.proofs.read_all.Lts as lts
+use Rattle.calls.proofs.answer_piece.Reads as answer-piece-reads
 use Rattle.calls.proofs.read_some.Reads as read-some-reads
-use Rattle.calls.proofs.take_piece.Reads as take-piece-reads
-use Rattle.calls.proofs.write_out.Reads as write-out-reads
 
 abbrev Inv-loop : tie.InvT-loop
-Inv-loop piece₀ line₀ frame₀ slots₀ memory₀ out₀ state₀ turns₀ piece line frame slots memory out state turns =
-    (length piece ≡ length piece₀) × (length line ≡ length line₀) × (length frame ≡ length frame₀)
-    × (length slots ≡ length slots₀) × (length memory ≡ length memory₀) × (length out ≡ length out₀)
+Inv-loop piece₀ line₀ slots₀ memory₀ state₀ turns₀ piece line slots memory state turns =
+    (length piece ≡ length piece₀) × (length line ≡ length line₀) × (length slots ≡ length slots₀) × (length memory ≡ length memory₀)
 
 abbrev μ-loop : tie.MeasureT-loop
-μ-loop piece₀ line₀ frame₀ slots₀ memory₀ out₀ state₀ turns₀ piece line frame slots memory out state turns =
-    turns
+μ-loop piece₀ line₀ slots₀ memory₀ state₀ turns₀ piece line slots memory state turns = turns
 
 loop-holds : tie.Need-loop-holds Inv-loop μ-loop
-loop-holds c = (refl, refl, refl, refl, refl, refl)
+loop-holds c = (refl, refl, refl, refl)
 
 sub-turns : tie.Need-sub-turns Inv-loop μ-loop
 sub-turns c = search needs
@@ -43,66 +40,42 @@ same-length-3 c = c .before .before .before .before .before .before .loop .inv .
 same-length-4 : tie.Need-same-length-4 Inv-loop μ-loop
 same-length-4 c = c .before .before .before .before .before .before .loop .inv .3
 
-same-length-5 : tie.Need-same-length-5 Inv-loop μ-loop
-same-length-5 c = c .before .before .before .before .before .before .loop .inv .4
-
-same-length-6 : tie.Need-same-length-6 Inv-loop μ-loop
-same-length-6 c = c .before .before .before .before .before .before .loop .inv .5
-
 returns : tie.Need-returns Inv-loop μ-loop
 returns c = search needs
 
-slice-reshare-prefix-take-piece : tie.Need-slice-reshare-prefix-take-piece Inv-loop μ-loop
-slice-reshare-prefix-take-piece c = search needs
+slice-reshare-prefix-answer-piece : tie.Need-slice-reshare-prefix-answer-piece Inv-loop μ-loop
+slice-reshare-prefix-answer-piece c = search needs
 
-slice-aggregate-take-piece : tie.Need-slice-aggregate-take-piece Inv-loop μ-loop
-slice-aggregate-take-piece c =
+slice-aggregate-answer-piece : tie.Need-slice-aggregate-answer-piece Inv-loop μ-loop
+slice-aggregate-answer-piece c =
     let c4 = c .before .before .before .before in
     sym (length-take-le _ _ (omega (arith, c4 .read-some .ensures, c4 .read-some .kept .0)))
 
-take-piece-requires : tie.Need-take-piece-requires Inv-loop μ-loop
-take-piece-requires c κs = search needs
-
-write-out-requires : tie.Need-write-out-requires Inv-loop μ-loop
-write-out-requires c κs = search needs
+answer-piece-requires : tie.Need-answer-piece-requires Inv-loop μ-loop
+answer-piece-requires c κs = search needs
 
 loop-less : tie.Need-loop-less Inv-loop μ-loop
-loop-less c =
-    let c25 = c .before .before .before .before .before .before .before .before .before .before .before .before .before .before .before .before .before .before .before .before .before .before .before .before .before in
-    omega (arith, c25 .loop-test .taken)
+loop-less c = omega (arith, c .before .before .before .before .before .before .before .before .before .before .before .before .before .before .before .before .loop-test .taken)
 
 loop-again : tie.Need-loop-again Inv-loop μ-loop
 loop-again c =
-    let c13 = c .before .before .before .before .before .before .before .before .before .before .before .before .before in
-    let c23 = c13 .before .before .before .before .before .before .before .before .before .before in
-    let c26 = c23 .before .before .before in
-    let k = c26 .loop .inv in
-    let e = c13 .take-piece .kept in (
-      c23 .read-some .kept .0 ∙ k .0,
-      e .1 .1 .0 ∙ k .1,
-      e .1 .1 .1 .0 ∙ k .2,
-      e .1 .1 .1 .1 .0 ∙ k .3,
-      e .1 .1 .1 .1 .1 .0 ∙ k .4,
-      e .1 .1 .1 .1 .1 .1 .0 ∙ k .5,
-    )
+    let c6 = c .before .before .before .before .before .before in
+    let c14 = c6 .before .before .before .before .before .before .before .before in
+    let k = c14 .before .before .before .loop .inv in
+    let e = c6 .answer-piece .kept .1 .1 in
+    (c14 .read-some .kept .0 ∙ k .0, e .0 ∙ k .1, e .1 .0 ∙ k .2, e .1 .1 .0 ∙ k .3)
+
+same-length-5 : tie.Need-same-length-5 Inv-loop μ-loop
+same-length-5 c = c .before .loop .inv .0
+
+same-length-6 : tie.Need-same-length-6 Inv-loop μ-loop
+same-length-6 c = c .before .loop .inv .1
 
 same-length-7 : tie.Need-same-length-7 Inv-loop μ-loop
-same-length-7 c = c .before .loop .inv .0
+same-length-7 c = c .before .loop .inv .2
 
 same-length-8 : tie.Need-same-length-8 Inv-loop μ-loop
-same-length-8 c = c .before .loop .inv .1
-
-same-length-9 : tie.Need-same-length-9 Inv-loop μ-loop
-same-length-9 c = c .before .loop .inv .2
-
-same-length-10 : tie.Need-same-length-10 Inv-loop μ-loop
-same-length-10 c = c .before .loop .inv .3
-
-same-length-11 : tie.Need-same-length-11 Inv-loop μ-loop
-same-length-11 c = c .before .loop .inv .4
-
-same-length-12 : tie.Need-same-length-12 Inv-loop μ-loop
-same-length-12 c = c .before .loop .inv .5
+same-length-8 c = c .before .loop .inv .3
 
 returns-2 : tie.Need-returns-2 Inv-loop μ-loop
 returns-2 c = search needs
@@ -120,19 +93,14 @@ read-all-spec =
     same-length-2
     same-length-3
     same-length-4
-    same-length-5
-    same-length-6
     returns
-    slice-reshare-prefix-take-piece
-    slice-aggregate-take-piece
-    take-piece-requires
-    write-out-requires
+    slice-reshare-prefix-answer-piece
+    slice-aggregate-answer-piece
+    answer-piece-requires
     loop-less
     loop-again
+    same-length-5
+    same-length-6
     same-length-7
     same-length-8
-    same-length-9
-    same-length-10
-    same-length-11
-    same-length-12
     returns-2)

@@ -13,8 +13,8 @@ use Rattle.calls.proofs.take_piece.Statement.{statement}
 use Rattle.calls.proofs.take_piece.Tie as tie
 use Rattle.calls.proofs.take_piece.Reads as reads
 use Rattle.calls.proofs.take_piece.Lts as lts
+use Rattle.buffer.proofs.front.Reads as front-reads
 use Rattle.calls.proofs.answer_line.Reads as answer-line-reads
-use Rattle.calls.proofs.front.Reads as front-reads
 use Rattle.words.proofs.gather.Reads as gather-reads
 
 -- what was gathered ends further on
@@ -23,16 +23,14 @@ further : (t : Gathered) (len : ℕ) (line : List ℕ) (from : ℕ) (piece : Lis
 further t len line from piece e l = rw e (gathered-further len line from piece l)
 
 abbrev Inv-loop : tie.InvT-loop
-Inv-loop piece line₀ frame₀ slots₀ memory₀ out₀ ends₀ len₀ used₀ at₀ line frame slots memory out ends len used at =
-    (length line ≡ length line₀) × (length frame ≡ length frame₀) × (length slots ≡ length slots₀)
-    × (length memory ≡ length memory₀) × (length out ≡ length out₀)
+Inv-loop piece line₀ slots₀ memory₀ out₀ ends₀ len₀ used₀ at₀ line slots memory out ends len used at =
+    (length line ≡ length line₀) × (length slots ≡ length slots₀) × (length memory ≡ length memory₀) × (length out ≡ length out₀)
 
 abbrev μ-loop : tie.MeasureT-loop
-μ-loop piece line₀ frame₀ slots₀ memory₀ out₀ ends₀ len₀ used₀ at₀ line frame slots memory out ends len used at =
-    length piece - at
+μ-loop piece line₀ slots₀ memory₀ out₀ ends₀ len₀ used₀ at₀ line slots memory out ends len used at = length piece - at
 
 loop-holds : tie.Need-loop-holds Inv-loop μ-loop
-loop-holds c = (refl, refl, refl, refl, refl)
+loop-holds c = (refl, refl, refl, refl)
 
 gather-requires : tie.Need-gather-requires Inv-loop μ-loop
 gather-requires c κs = search needs
@@ -45,28 +43,27 @@ answer-line-requires c κs = search needs
 
 loop-less : tie.Need-loop-less Inv-loop μ-loop
 loop-less c =
-    let c19 = c .before .before .before .before .before .before .before .before .before .before .before .before .before .before .before .before .before .before .before in
-    let c21 = c19 .before .before in
-    omega (arith, further _ _ _ _ _ (c19 .gather .ensures .0) (c21 .loop-test .taken), c21 .loop-test .taken)
+    let c16 = c .before .before .before .before .before .before .before .before .before .before .before .before .before .before .before .before in
+    let t = c16 .before .before .loop-test .taken in
+    omega (arith, further _ _ _ _ _ (c16 .gather .ensures .0) t, t)
 
 loop-again : tie.Need-loop-again Inv-loop μ-loop
 loop-again c =
-    let c9 = c .before .before .before .before .before .before .before .before .before in
-    let c19 = c9 .before .before .before .before .before .before .before .before .before .before in
-    let c22 = c19 .before .before .before in
-    let k = c22 .loop .inv in
-    let e = c9 .answer-line .kept in
-    (c19 .gather .kept .1 .0 ∙ k .0, e .1 .1 .0 ∙ k .1, e .1 .1 .1 .0 ∙ k .2, e .1 .1 .1 .1 .0 ∙ k .3, e .1 .1 .1 .1 .1 .0 ∙ k .4)
+    let c7 = c .before .before .before .before .before .before .before in
+    let c16 = c7 .before .before .before .before .before .before .before .before .before in
+    let k = c16 .before .before .before .loop .inv in
+    let e = c7 .answer-line .kept .1 .1 in
+    (c16 .gather .kept .1 .0 ∙ k .0, e .0 ∙ k .1, e .1 .0 ∙ k .2, e .1 .1 .0 ∙ k .3)
 
 loop-less-2 : tie.Need-loop-less-2 Inv-loop μ-loop
 loop-less-2 c =
-    let c5 = c .before .before .before .before .before in
-    omega (arith, further _ _ _ _ _ (c .before .before .before .gather .ensures .0) (c5 .loop-test .taken), c5 .loop-test .taken)
+    let t = c .before .before .before .before .before .loop-test .taken in
+    omega (arith, further _ _ _ _ _ (c .before .before .before .gather .ensures .0) t, t)
 
 loop-again-2 : tie.Need-loop-again-2 Inv-loop μ-loop
 loop-again-2 c =
     let k = c .before .before .before .before .before .before .loop .inv in
-    (c .before .before .before .gather .kept .1 .0 ∙ k .0, k .1, k .2, k .3, k .4)
+    (c .before .before .before .gather .kept .1 .0 ∙ k .0, k .1, k .2, k .3)
 
 same-length : tie.Need-same-length Inv-loop μ-loop
 same-length c = c .before .loop .inv .0
@@ -79,9 +76,6 @@ same-length-3 c = c .before .loop .inv .2
 
 same-length-4 : tie.Need-same-length-4 Inv-loop μ-loop
 same-length-4 c = c .before .loop .inv .3
-
-same-length-5 : tie.Need-same-length-5 Inv-loop μ-loop
-same-length-5 c = c .before .loop .inv .4
 
 returns : tie.Need-returns Inv-loop μ-loop
 returns c = search needs
@@ -104,5 +98,4 @@ take-piece-spec =
     same-length-2
     same-length-3
     same-length-4
-    same-length-5
     returns)

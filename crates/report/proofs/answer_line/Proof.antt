@@ -11,7 +11,7 @@ use Rattle.report.proofs.answer_line.Reads as reads
 use Rattle.report.proofs.answer_line.Lts as lts
 use Rattle.hexline.proofs.Line.is_refused.Reads as is-refused-reads
 use Rattle.reception.proofs.receive.Reads as receive-reads
-use Rattle.report.proofs.front.Reads as front-reads
+use Rattle.buffer.proofs.front.Reads as front-reads
 
 is-refused-requires : tie.Need-is-refused-requires
 is-refused-requires c κs = search needs
