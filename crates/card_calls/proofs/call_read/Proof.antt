@@ -6,7 +6,7 @@ use Rattle.card_calls.proofs.call_read.Statement.{statement}
 use Rattle.card_calls.proofs.call_read.Tie as tie
 use Rattle.card_calls.proofs.call_read.Reads as reads
 use Rattle.card_calls.proofs.call_read.Lts as lts
-use Rattle.retransmission.proofs.read_acknowledgements.Reads as read-acknowledgements-reads
+use Rattle.acknowledgements.proofs.read_acknowledgements.Reads as read-acknowledgements-reads
 use Rattle.wording.proofs.put_done.Reads as put-done-reads
 
 read-acknowledgements-requires : tie.Need-read-acknowledgements-requires
