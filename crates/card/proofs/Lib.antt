@@ -1,3 +1,2 @@
 pub mod Slots
-pub mod Reachable
 pub mod Range

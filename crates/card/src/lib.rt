@@ -1,6 +1,5 @@
 // The card's end of a pair, and opening it. Assumes nothing. It promises a fresh card or the refusal; what the six steps do with
-// a card is defined in specs/Card.antt, and the crates assembly, acknowledgements and retransmission do it; specs/Reachable.antt
-// is kept by all of them.
+// a card is defined in specs/Card.antt, and the crates assembly, acknowledgements and retransmission do it.
 use send_window::SendWindow;
 use sendings::Sendings;
 use seq::FrameNo;

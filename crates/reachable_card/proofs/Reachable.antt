@@ -82,8 +82,8 @@ use Rattle.card.specs.Card.{
   chooseRefusal,
   chooseNext,
 }
 use Rattle.card.proofs.Slots.{limit-least, limit-most, buffer-long, Addable, addable, room-in, frame-in, slot-long}
-use Rattle.card.specs.Reachable.{InOrder, Counted, Orderly, Building, Reachable}
+use Rattle.reachable_card.specs.Reachable.{InOrder, Counted, Orderly, Building, Reachable}
 
 -- ---- the window
 
