@@ -12,7 +12,20 @@ use borrow.Rule.Slice.PartMut.{putMid}
 use mir.Syntax.{w8}
 use mir.Val.{Fits}
 use lib.ListN.{length, take, drop, getD, set, length-append, drop-of-length-le}
-use lib.Seq.{sets, sets-eq, length-sets, length-take-le, take-at, drop-at, drop-append-add, drop-drop, drop-nil, take-nil, take-length, take-append-seam}
+use lib.Seq.{
+  sets,
+  sets-eq,
+  length-sets,
+  length-take-le,
+  take-at,
+  drop-at,
+  drop-append-add,
+  drop-drop,
+  drop-nil,
+  take-nil,
+  take-length,
+  take-append-seam,
+}
 use Rattle.octets.specs.Octets.{Bytes, little, value, field, inside, written}
 
 -- ---- numbers

@@ -25,7 +25,18 @@ use Rattle.wire.specs.Writing.{
   firstMessage,
   nextMessage,
 }
-use Rattle.wire.proofs.Format.{next-after, length-gap, length-frameHead, length-last, length-laid-one, length-laid-more, passed, length-passed, laid-passed, length-frame}
+use Rattle.wire.proofs.Format.{
+  next-after,
+  length-gap,
+  length-frameHead,
+  length-last,
+  length-laid-one,
+  length-laid-more,
+  passed,
+  length-passed,
+  laid-passed,
+  length-frame,
+}
 
 -- ---- one message more in what is laid out
 

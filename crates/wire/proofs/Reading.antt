@@ -12,7 +12,20 @@ use borrow.Author.Tests.{lt-ltb, le-ltb, le-leb, lt-leb}
 use lib.ListN.{length}
 use Rattle.octets.specs.Octets.{field}
 use Rattle.wire.specs.Format.{Message, nextHeader}
-use Rattle.wire.specs.Reading.{flags, follows, dataEnd, messageAt, prepend, bad, good, orPassesEnd, messagesFrom, headingOf, readFrame, refusalOf}
+use Rattle.wire.specs.Reading.{
+  flags,
+  follows,
+  dataEnd,
+  messageAt,
+  prepend,
+  bad,
+  good,
+  orPassesEnd,
+  messagesFrom,
+  headingOf,
+  readFrame,
+  refusalOf,
+}
 
 none≢some : {x : List Message} → _≡_ {A = Option (List Message)} none (some x) → ⊥
 none≢some e =

@@ -15,7 +15,24 @@ use Rattle.octets.specs.Octets.{Bytes, little, value, field}
 use Rattle.octets.proofs.Octets.{value-little, field-behind, field-lt}
 use Rattle.seq.specs.Ring.{frameSpace, transSpace, distance, inRange}
 use Rattle.wire.specs.Format.{Message, nextHeader}
-use Rattle.wire.specs.Reading.{destination, source, number, ackStart, ackCount, flags, addressed, follows, dataEnd, messageAt, messagesFrom, good, orPassesEnd, headingOf, readFrame, acknowledges}
+use Rattle.wire.specs.Reading.{
+  destination,
+  source,
+  number,
+  ackStart,
+  ackCount,
+  flags,
+  addressed,
+  follows,
+  dataEnd,
+  messageAt,
+  messagesFrom,
+  good,
+  orPassesEnd,
+  headingOf,
+  readFrame,
+  acknowledges,
+}
 use Rattle.wire.specs.Writing.{frameHead, messageHead, endOf, gapAt, laid, frameOf, ackFrame}
 use Rattle.wire.proofs.Reading.{Headed, unread, headed, read-messages}
 use Rattle.wire.proofs.Format.{
