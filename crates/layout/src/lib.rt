@@ -2,10 +2,10 @@
 // Assumes nothing: any bytes get an answer. It promises what specs/Layout.antt says, over the format of the crate wire.
 use reader::Found;
 ghost use mathlib.Core.Path.{_≡_};
-ghost use mathlib.Core.Bool.{true, false};
+ghost use mathlib.Core.Bool.{true};
 ghost use Prim.Native.Nat.{_≤_};
 ghost use lib.ListN.{length};
-ghost use Rattle.wire.specs.Reading.{flags, addressed, headingOf, readFrame, refusalOf, orPassesEnd, messagesFrom};
+ghost use Rattle.wire.specs.Reading.{addressed, readFrame, refusalOf, orPassesEnd, messagesFrom};
 ghost use Rattle.layout.specs.Layout.{layoutOf, numberOf, messagesOf, bytesOf, unlessRefused};
 
 // A frame as a whole: the refusal's number; or its messages and their data bytes.
@@ -82,41 +82,15 @@ fn walk(f: &[u8]) -> Layout
     }
 }
 
-fn flags_of(f: &[u8]) -> u8
-    ensures { λ r. ⌜ r ≡ flags (now (f .entry)) ⌝ }
-{
-    let head = reader::frame_header(f);
-    head.flags
-}
-
-// Refusals 1 to 4, which the frame's length and header decide.
-fn heading(f: &[u8], ids: bool) -> u8
-    ensures { λ r. ⌜ r ≡ headingOf ids (now (f .entry)) ⌝ }
-{
-    if f.len() < 10 {
-        return refusal::FRAME_SHORT;
-    }
-    if wire::FRAME_MOST < f.len() {
-        return refusal::FRAME_LONG;
-    }
-    if !ids {
-        return refusal::FOREIGN_ID;
-    }
-    if 1 < flags_of(f) {
-        return refusal::RESERVED_FLAG;
-    }
-    0
-}
-
 // The layout where the two IDs are the expected ones or not.
 fn layout_where(f: &[u8], ids: bool) -> Layout
     ensures { λ r. ⌜ r ≡ layoutOf (readFrame ids (now (f .entry))) ⌝ }
 {
-    let stop = heading(f, ids);
+    let stop = heading::heading_where(f, ids);
     if stop != 0 {
         return Layout::Refused(stop);
     }
-    if flags_of(f) == 0 {
+    if heading::flags_of(f) == 0 {
         return Layout::Counts(0, 0);
     }
     walk(f)
@@ -129,28 +103,9 @@ pub fn layout_of(f: &[u8]) -> Layout
     layout_where(f, true)
 }
 
-// Whether the frame goes to own and comes from peer.
-fn is_addressed(f: &[u8], own: u16, peer: u16) -> bool
-    ensures { λ r. ⌜ r ≡ addressed own peer (now (f .entry)) ⌝ }
-{
-    let head = reader::frame_header(f);
-    if head.destination != own {
-        return false;
-    }
-    head.source == peer
-}
-
 // The refusal of a frame that has come to own and should be from peer; 0 where it can be read.
 pub fn refusal_of(f: &[u8], own: u16, peer: u16) -> u8
     ensures { λ r. ⌜ r ≡ refusalOf (readFrame (addressed own peer (now (f .entry))) (now (f .entry))) ⌝ }
 {
-    layout_where(f, is_addressed(f, own, peer)).refusal()
-}
-
-// The first of refusals 1 to 4 of a frame that has come to own and should be from peer, and 0 where there is none: then only its
-// messages are left to read.
-pub fn heading_refusal(f: &[u8], own: u16, peer: u16) -> u8
-    ensures { λ r. ⌜ r ≡ headingOf (addressed own peer (now (f .entry))) (now (f .entry)) ⌝ }
-{
-    heading(f, is_addressed(f, own, peer))
+    layout_where(f, heading::is_addressed(f, own, peer)).refusal()
 }

@@ -10,7 +10,7 @@ use Rattle.layout.proofs.refusal_of.Tie as tie
 use Rattle.layout.proofs.refusal_of.Reads as reads
 use Rattle.layout.proofs.refusal_of.Lts as lts
 use Rattle.layout.proofs.Layout.refusal.Reads as refusal-reads
-use Rattle.layout.proofs.is_addressed.Reads as is-addressed-reads
+use Rattle.heading.proofs.is_addressed.Reads as is-addressed-reads
 use Rattle.layout.proofs.layout_where.Reads as layout-where-reads
 
 is-addressed-requires : tie.Need-is-addressed-requires

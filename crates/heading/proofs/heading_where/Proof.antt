@@ -1,15 +1,15 @@
--- `layout::heading`: refusals 1 to 4 in their order, each by its law.
+-- `heading::heading_where`: refusals 1 to 4 in their order, each by its law.
 -- Assumes nothing.
 use mathlib.Core.Path.{sym}
 use native.Mathlib.Omega.{arith}
 use borrow.Author.Tests.{not-true, not-false}
 use Rattle.wire.proofs.Reading.{heading-0, heading-1, heading-2, heading-3, heading-4}
 use borrow.Author.Needs.{needs}
-use Rattle.layout.proofs.heading.Statement.{statement}
-use Rattle.layout.proofs.heading.Tie as tie
-use Rattle.layout.proofs.heading.Reads as reads
-use Rattle.layout.proofs.heading.Lts as lts
-use Rattle.layout.proofs.flags_of.Reads as flags-of-reads
+use Rattle.heading.proofs.heading_where.Statement.{statement}
+use Rattle.heading.proofs.heading_where.Tie as tie
+use Rattle.heading.proofs.heading_where.Reads as reads
+use Rattle.heading.proofs.heading_where.Lts as lts
+use Rattle.heading.proofs.flags_of.Reads as flags-of-reads
 
 returns : tie.Need-returns
 returns c = let a = c .before .before .args in sym (heading-1 (a .ids) (a .f .now) (c .if1 .taken))
@@ -35,6 +35,6 @@ returns-5 c =
     let a = c .before .before .before .before .before .before .args in
     sym (heading-0 (a .ids) (a .f .now) (omega arith) (omega arith) (not-false _ (c .before .before .if3 .left)) (omega arith))
 
-pub heading-spec : {M : Type 1} → statement M
-heading-spec =
+pub heading-where-spec : {M : Type 1} → statement M
+heading-where-spec =
     tie.close (tie.spec returns returns-2 returns-3 flags-of-requires returns-4 returns-5)

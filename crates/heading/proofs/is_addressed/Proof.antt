@@ -1,4 +1,4 @@
--- `layout::is_addressed`: both IDs, the destination first.
+-- `heading::is_addressed`: both IDs, the destination first.
 -- Assumes nothing.
 use mathlib.Core.Path.{ap}
 use borrow.Author.Tests.{eq-eqb, ne-eqb}
@@ -6,10 +6,10 @@ use Rattle.wire.specs.declared.FrameHeader.{FrameHeader}
 use Rattle.wire.specs.Reading.{addressed}
 use Rattle.reader.specs.Finding.{headerOf}
 use borrow.Author.Needs.{needs}
-use Rattle.layout.proofs.is_addressed.Statement.{statement}
-use Rattle.layout.proofs.is_addressed.Tie as tie
-use Rattle.layout.proofs.is_addressed.Reads as reads
-use Rattle.layout.proofs.is_addressed.Lts as lts
+use Rattle.heading.proofs.is_addressed.Statement.{statement}
+use Rattle.heading.proofs.is_addressed.Tie as tie
+use Rattle.heading.proofs.is_addressed.Reads as reads
+use Rattle.heading.proofs.is_addressed.Lts as lts
 use Rattle.reader.proofs.frame_header.Reads as frame-header-reads
 
 frame-header-requires : tie.Need-frame-header-requires

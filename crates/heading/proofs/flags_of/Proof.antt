@@ -1,13 +1,13 @@
--- `layout::flags_of`: the field of the header.
+-- `heading::flags_of`: the field of the header.
 -- Assumes nothing.
 use mathlib.Core.Path.{ap}
 use Rattle.wire.specs.declared.FrameHeader.{FrameHeader}
 use Rattle.reader.specs.Finding.{headerOf}
 use borrow.Author.Needs.{needs}
-use Rattle.layout.proofs.flags_of.Statement.{statement}
-use Rattle.layout.proofs.flags_of.Tie as tie
-use Rattle.layout.proofs.flags_of.Reads as reads
-use Rattle.layout.proofs.flags_of.Lts as lts
+use Rattle.heading.proofs.flags_of.Statement.{statement}
+use Rattle.heading.proofs.flags_of.Tie as tie
+use Rattle.heading.proofs.flags_of.Reads as reads
+use Rattle.heading.proofs.flags_of.Lts as lts
 use Rattle.reader.proofs.frame_header.Reads as frame-header-reads
 
 frame-header-requires : tie.Need-frame-header-requires
