@@ -18,7 +18,7 @@ use Rattle.transactions.specs.Transactions.{
   verdict,
   after,
 }
-use Rattle.host.specs.Host.{fresh, openedOf, effect, takeIn, takeAll, accepting, numbered, receiveOf, acknowledgementOf}
+use Rattle.host.specs.Host.{fresh, openedOf, effect, takeIn, takeAll, accepting, byNumber, receiveOf, acknowledgementOf}
 use Rattle.send_window.specs.Window.{emptyWindow, held, beforeHeld, sealing, acknowledgedBy, releasing, acknowledging}
 use Rattle.sendings.specs.Sendings.{
   noSendings,
@@ -109,7 +109,7 @@ unfoldable pub computing : Unit {0}
 unfolding distance advance latest mark withMark leading leadingOnes marksOf little value field inside written headOf
     needed nextHeader addressed follows messageAt messagesFrom headingOf readFrame frameHead messageHead laid frameOf ackFrame
     roomFor firstMessage nextMessage agrees termsRefusal addressRefusal fills refusing closing holding verdictOf
-    verdict after fresh openedOf effect takeIn takeAll accepting numbered receiveOf acknowledgementOf emptyWindow held
+    verdict after fresh openedOf effect takeIn takeAll accepting byNumber receiveOf acknowledgementOf emptyWindow held
     beforeHeld sealing acknowledgedBy releasing acknowledging noSendings openingRefusal opening takes adding delivered
     finishedBy passing finishing freshCard fits cardRefusal openCard openTransaction addRefusal messageOf builtSlot
     builtSlots withMessage addMessage sealRefusal sealFrame acknowledged readAcks frameIn showRefusal showFrame

@@ -18,8 +18,8 @@ use Rattle.wire.specs.Format.{Message}
 use Rattle.host.specs.declared.Pair.{Pair}
 use Rattle.host.specs.declared.Answer.{Answer}
 use Rattle.host.specs.declared.Answer.the-variants.{Accepted, Again}
-use Rattle.host.specs.Host.{Tally, takeAll, Received, unchanged, accepting, concluded, transactionsOf, tallyOf, numbered}
-use Rattle.host.proofs.Receiving.{numbered-behind, numbered-again, numbered-new}
+use Rattle.host.specs.Host.{Tally, takeAll, Received, unchanged, accepting, concluded, transactionsOf, tallyOf, byNumber}
+use Rattle.host.proofs.Receiving.{by-number-behind, by-number-again, by-number-new}
 use Rattle.delivery.specs.Book.{
   MessageRecord,
   Transaction,
@@ -96,16 +96,16 @@ module _ (h : Pair) (b : Book) (r : HostFor h b) (s : Sound b) (c : ℕ) (inside
       r .marksAre (c - lo) ∙ ap (λ (k : ℕ). frameAt b k .accepted) z
 
   pub answers-again : frameAt b c .accepted ≡ true
-      → numbered h memory num ms ≡ unchanged h memory (Again (record { 0 = num }))
+      → byNumber h memory num ms ≡ unchanged h memory (Again (record { 0 = num }))
   answers-again a = go (decLt c lo)
     where
-      go : Dec (c < lo) → numbered h memory num ms ≡ unchanged h memory (Again (record { 0 = num }))
+      go : Dec (c < lo) → byNumber h memory num ms ≡ unchanged h memory (Again (record { 0 = num }))
       go (yes l) =
           let far : 65536 - 32768 ≤ dist = rw (r .nextIs) (host-late frameSpace (lit< tt) 32768 lo c (omega arith) l inTime) in
-          numbered-behind h memory num dist ms refl (omega arith)
+          by-number-behind h memory num dist ms refl (omega arith)
       go (no n) =
           let d : dist ≡ c - lo = away (omega arith) (omega (arith, fits64)) in
-          numbered-again h memory num dist ms refl (omega (arith, d, fits64))
+          by-number-again h memory num dist ms refl (omega (arith, d, fits64))
           (ap (mark (h .marks)) d ∙ marked-as (omega arith) ∙ a)
 
   module _ (isNew : frameAt b c .accepted ≡ false) where
@@ -121,9 +121,9 @@ module _ (h : Pair) (b : Book) (r : HostFor h b) (s : Sound b) (c : ℕ) (inside
     near : dist < 64
     near = omega (arith, dist-is, from-low, below-end)
 
-    pub judges : numbered h memory num ms ≡ concluded h memory num (takeAll (tallyOf h memory) 0 ms)
+    pub judges : byNumber h memory num ms ≡ concluded h memory num (takeAll (tallyOf h memory) 0 ms)
     judges =
-        numbered-new h memory num dist ms refl near (ap (mark (h .marks)) dist-is ∙ marked-as from-low ∙ isNew)
+        by-number-new h memory num dist ms refl near (ap (mark (h .marks)) dist-is ∙ marked-as from-low ∙ isNew)
 
     -- the frame's mark set and the window moved
     marked : ℕ
@@ -302,7 +302,7 @@ module _ (h : Pair) (b : Book) (r : HostFor h b) (s : Sound b) (c : ℕ) (kept :
     pub nextFor : HostFor next (enterArrival b c)
     pub sameOwn : next .own ≡ h .own
     pub samePeer : next .peer ≡ h .peer
-    pub answered : numbered h (bookMemory b) (c % frameSpace) ms
+    pub answered : byNumber h (bookMemory b) (c % frameSpace) ms
         ≡ record {
           pair = next;
           memory = bookMemory (enterArrival b c);

@@ -23,7 +23,7 @@ use Rattle.wire.specs.Writing.{frameOf}
 use Rattle.wire.proofs.RoundTrip.{Fits, frame-addressed, frame-back, frame-flags, frame-number}
 use Rattle.host.specs.declared.Pair.{Pair}
 use Rattle.host.specs.declared.Answer.the-variants.{Again}
-use Rattle.host.specs.Host.{Received, unchanged, numbered, receiveOf}
+use Rattle.host.specs.Host.{Received, unchanged, byNumber, receiveOf}
 use Rattle.host.proofs.Receiving.{received-good}
 use Rattle.delivery.specs.Book.{
   MessageRecord,
@@ -248,7 +248,7 @@ module _ (w : System) (b : Book) (k c : ℕ) (e : MessageRecord) (a : Arrival w 
 
   -- the frame that is awaited: as the rules say
   in-turn : lowestNotAccepted b ≡ c → step older w (receives k) ≡ step specified w (receives k)
-  unfolding step byHost acksFor numberedPlainly numbered
+  unfolding step byHost acksFor numberedPlainly byNumber
   in-turn awaited = rw same
     where
       next-is : h .next .0 ≡ num
@@ -257,12 +257,12 @@ module _ (w : System) (b : Book) (k c : ℕ) (e : MessageRecord) (a : Arrival w 
       no-distance : distance frameSpace num num ≡ 0
       no-distance = distance-ahead frameSpace (lit< tt) c c (omega arith) (omega arith) ∙ sub-self c
 
-      alike : numberedPlainly h (w .memory) num (m ∷ []) ≡ numbered h (w .memory) num (m ∷ [])
+      alike : numberedPlainly h (w .memory) num (m ∷ []) ≡ byNumber h (w .memory) num (m ∷ [])
       alike = rw (next-is, not-behind num, no-distance)
 
       same : comparesPlainly h frame (w .memory) ≡ receiveOf h frame (w .memory)
       same =
-          plainly ∙ alike ∙ sym (ap (λ (n : ℕ). numbered h (w .memory) n (m ∷ [])) number-is)
+          plainly ∙ alike ∙ sym (ap (λ (n : ℕ). byNumber h (w .memory) n (m ∷ [])) number-is)
           ∙ sym (received-good h frame (w .memory) (m ∷ []) read has-messages)
 
   -- a frame whose number is below the awaited one's: "again", whether it is a copy or new

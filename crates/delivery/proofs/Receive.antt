@@ -22,7 +22,7 @@ use Rattle.host.specs.declared.Pair.{Pair}
 use Rattle.host.specs.declared.Sums.{Sums}
 use Rattle.host.specs.declared.Answer.{Answer}
 use Rattle.host.specs.declared.Answer.the-variants.{Accepted, Again, NoMessages}
-use Rattle.host.specs.Host.{unchanged, refused, numbered, receiveOf, rangeOf, acknowledgementOf}
+use Rattle.host.specs.Host.{unchanged, refused, byNumber, receiveOf, rangeOf, acknowledgementOf}
 use Rattle.host.proofs.Receiving.{received-refused, received-none, received-good}
 use Rattle.delivery.specs.Book.{
   MessageRecord,
@@ -240,7 +240,7 @@ module _ (cardId hostId : ℕ) (cardFits : cardId < frameSpace) (hostFits : host
         (w .card) (w .slots) (f .cardFor)
 
     -- accepted and again call for the acknowledgement of the frame's number
-    acks-now : (x : Pair) (a : Answer) → x .own ≡ hostId → x .peer ≡ cardId → rangeOf a ≡ record { start = num; count = 1 }
+    acks-now : (x : Pair) (a : Answer) → x .own ≡ hostId → x .peer ≡ cardId → rangeOf a ≡ record { start = record { 0 = num }; count = 1 }
         → Along (Acknowledges cardId hostId) (w .acks ++ acksFor specified x a) (b′ .acksDue)
     unfolding enterArrival acksFor acknowledgementOf
     acks-now x a o p q =
@@ -270,7 +270,7 @@ module _ (cardId hostId : ℕ) (cardFits : cardId < frameSpace) (hostFits : host
     receive-framed : (memory : List ℕ) (xs : List MessageRecord) → 0 < length xs → AllFit (map (wired (b .transactions)) xs)
         → length (framed cardId hostId (b .transactions) c xs) ≤ 9000
         → receiveOf h (framed cardId hostId (b .transactions) c xs) memory
-        ≡ numbered h memory num (map (wired (b .transactions)) xs)
+        ≡ byNumber h memory num (map (wired (b .transactions)) xs)
     receive-framed memory [] l a k = absurd (not-suc-le-zero l)
     receive-framed memory (e ∷ xs) l a k =
         let g = framed cardId hostId (b .transactions) c (e ∷ xs) in
@@ -282,16 +282,16 @@ module _ (cardId hostId : ℕ) (cardFits : cardId < frameSpace) (hostFits : host
         received-good h g memory all
         (rw mine (frame-back hostId cardId num (wired (b .transactions) e) (map (wired (b .transactions)) xs) (a .0) (a .1) k))
         (λ z. omega arith)
-        ∙ ap (λ (n : ℕ). numbered h memory n all) (frame-number hostId cardId num hostFits cardFits nf all)
+        ∙ ap (λ (n : ℕ). byNumber h memory n all) (frame-number hostId cardId num hostFits cardFits nf all)
 
     received : (g : List ℕ) → Copied cardId hostId b g (frameCopy c)
-        → receiveOf h g (w .memory) ≡ numbered h (bookMemory b) num ms
+        → receiveOf h g (w .memory) ≡ byNumber h (bookMemory b) num ms
     received g copy =
         ap (λ (x : List ℕ). receiveOf h x (w .memory)) (copy .0)
         ∙ receive-framed (w .memory) es (f .sound .filled c inside)
         (all-fit es (λ e m. Memᴰ·append-left (b .building) (messages-of-frame (b .frames) c e m)))
         (subst (λ (l : List ℕ). length l ≤ 9000) (copy .0) (copy .1))
-        ∙ ap (λ (m : List ℕ). numbered h m num ms) (f .rest .memoryIs)
+        ∙ ap (λ (m : List ℕ). byNumber h m num ms) (f .rest .memoryIs)
 
     -- again
     module _ (old : frameAt b c .accepted ≡ true) where
@@ -486,7 +486,7 @@ module _ (cardId hostId : ℕ) (cardFits : cardId < frameSpace) (hostFits : host
   reached-frame k c inside copy late kept = go (frameAt b c .accepted) refl
     where
       got : receiveOf h (getD (w .handOuts) k []) (w .memory)
-          ≡ numbered h (bookMemory b) (c % frameSpace) (map (wired (b .transactions)) (frameAt b c .messages))
+          ≡ byNumber h (bookMemory b) (c % frameSpace) (map (wired (b .transactions)) (frameAt b c .messages))
       got = received c inside (getD (w .handOuts) k []) copy
 
       go : (y : Bool) → frameAt b c .accepted ≡ y → Keeps k (enterArrival b c)

@@ -143,7 +143,7 @@ takesForOld h f m =
 unfoldable pub acksTwo : ℕ → ℕ → Answer → ℕ → Acknowledgement
 acksTwo own peer a num = record {
   due = ltb 0 (rangeOf a .count);
-  frame = ackFrame peer own num (rangeOf a .start) (suc (rangeOf a .count));
+  frame = ackFrame peer own num (rangeOf a .start .0) (suc (rangeOf a .count));
 }
 
 -- It does not acknowledge a frame that comes again.
@@ -200,7 +200,7 @@ addsNothing =
 unfoldable pub behind : ℕ → ℕ → Bool
 behind num next = ltb num next
 
--- As the rules say (`numbered`), but for the test whether a frame is behind.
+-- As the rules say (`byNumber`), but for the test whether a frame is behind.
 unfoldable pub numberedPlainly : Pair → List ℕ → ℕ → List Message → Received
 numberedPlainly p memory num ms =
     let d = distance frameSpace (p .next .0) num in

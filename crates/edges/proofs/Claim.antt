@@ -20,7 +20,7 @@ use Rattle.transactions.specs.Transactions.{
   verdict,
   after,
 }
-use Rattle.host.specs.Host.{effect, takeIn, takeAll, accepting, numbered, receiveOf}
+use Rattle.host.specs.Host.{effect, takeIn, takeAll, accepting, byNumber, receiveOf}
 use Rattle.send_window.specs.Window.{emptyWindow}
 use Rattle.sendings.specs.Sendings.{noSendings, openingRefusal, opening, takes, adding}
 use Rattle.card.specs.Card.{
@@ -39,7 +39,7 @@ use Rattle.edges.specs.Edges.{Case, added, result, cases}
 pub edges-hold : map (λ (c : Case). result (c .edge)) cases ≡ map (λ (c : Case). c .answer) cases
 unfolding distance advance mark withMark leading leadingOnes little value field inside written headOf nextHeader addressed
     follows messageAt messagesFrom headingOf readFrame frameHead messageHead laid frameOf needed agrees termsRefusal addressRefusal fills
-    refusing closing holding verdictOf verdict after effect takeIn takeAll accepting numbered receiveOf
+    refusing closing holding verdictOf verdict after effect takeIn takeAll accepting byNumber receiveOf
     emptyWindow noSendings openingRefusal opening takes adding freshCard fits openTransaction addRefusal roomFor firstMessage
     nextMessage messageOf builtSlot builtSlots withMessage addMessage added
 edges-hold = refl

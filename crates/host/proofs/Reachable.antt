@@ -45,14 +45,14 @@ use Rattle.host.specs.Host.{
   openedOf,
   Tally,
   takeIn,
-  Outcome,
+  Taken,
   fine,
   wrong,
   takeAll,
   accepting,
   concluded,
   tallyOf,
-  numbered,
+  byNumber,
   receiveOf,
 }
 use Rattle.host.specs.Reachable.{Underway, Orderly, Reachable}
@@ -319,20 +319,20 @@ accepting-reachable p num t r s =
     fits : marked < 2 ^ 64
     fits = withMark-lt 64 (p .marks) (distance frameSpace (p .next .0) num) (r .marks-fit)
 
-numbered-reachable : (p : Pair) (memory : List ℕ) (num : ℕ) (ms : List Message) → Reachable p → AllFit ms
-    → Reachable (numbered p memory num ms .pair)
-unfolding numbered
-numbered-reachable p memory num ms r f = go (leb 32768 d) refl (leb 64 d) refl (mark (p .marks) d) refl
+byNumber-reachable : (p : Pair) (memory : List ℕ) (num : ℕ) (ms : List Message) → Reachable p → AllFit ms
+    → Reachable (byNumber p memory num ms .pair)
+unfolding byNumber
+byNumber-reachable p memory num ms r f = go (leb 32768 d) refl (leb 64 d) refl (mark (p .marks) d) refl
   where
     d : ℕ
     d = distance frameSpace (p .next .0) num
 
-    taken : (o : Outcome) → takeAll (tallyOf p memory) 0 ms ≡ o → Reachable (concluded p memory num o .pair)
+    taken : (o : Taken) → takeAll (tallyOf p memory) 0 ms ≡ o → Reachable (concluded p memory num o .pair)
     taken (fine t) e = accepting-reachable p num t r (taken-keep (tallyOf p memory) 0 ms t (r .transactions) f e)
     taken (wrong n place) e = r
 
     go : (a : Bool) → leb 32768 d ≡ a → (b : Bool) → leb 64 d ≡ b → (c : Bool) → mark (p .marks) d ≡ c
-        → Reachable (numbered p memory num ms .pair)
+        → Reachable (byNumber p memory num ms .pair)
     go true x b y c z = rw x r
     go false x true y c z = rw (x, y) r
     go false x false y true z = rw (x, y, z) r
@@ -347,4 +347,4 @@ receive-reachable p f memory r b = go (eqb (refusalOf (reading p f memory)) 0) r
     go true z true w = rw (received-none p f memory (readable _ f (eqb-true _ 0 z)) (eqb-true (flags f) 0 w)) r
     go true z false w =
         let s = received-some p f memory (readable _ f (eqb-true _ 0 z)) (eqb-false (flags f) 0 w) in
-        rw (s .2) (numbered-reachable p memory (number f) (s .0) r (messages-fit (length f) f 10 (s .0) b (s .1)))
+        rw (s .2) (byNumber-reachable p memory (number f) (s .0) r (messages-fit (length f) f 10 (s .0) b (s .1)))

@@ -17,6 +17,7 @@ use Rattle.host.specs.declared.Refusal.{Refusal}
 use Rattle.host.specs.declared.Sums.{Sums}
 use Rattle.host.specs.declared.Opened.{Opened}
 use Rattle.host.specs.declared.Stepped.{Stepped}
+use Rattle.host.specs.declared.Range.{Range}
 use Rattle.host.specs.declared.Acknowledgement.{Acknowledgement}
 use Rattle.host.specs.declared.Answer.{Answer}
 use Rattle.host.specs.declared.Answer.the-variants.{Accepted, Again, NoMessages, Refused}
@@ -35,11 +36,14 @@ fresh own peer = record {
   table = replicate 32 free;
 }
 
--- Refusal 13 where an ID is 0: a refused opening hands back a fresh pair with both IDs 0. Number 0 is no refusal.
+-- A refused opening hands back a fresh pair with both IDs 0.
+abbrev pub refusedOpening : Opened
+refusedOpening = record { pair = fresh 0 0; refusal = record { number = 13; place = 0 } }
+
+-- Refusal 13 where an ID is 0. Number 0 is no refusal.
 unfoldable pub openedOf : ℕ → ℕ → Opened
 openedOf own peer =
-    cond (eqb own 0 || eqb peer 0)
-    (record { pair = fresh 0 0; refusal = record { number = 13; place = 0 } })
+    cond (eqb own 0 || eqb peer 0) refusedOpening
     (record { pair = fresh own peer; refusal = record { number = 0; place = 0 } })
 
 -- ---- a frame's messages
@@ -67,12 +71,12 @@ takeIn t m v = record {
 }
 
 -- All of them fine, or the first that is refused: its number and its index.
-pub data Outcome : Type 0 where
-  fine : Tally → Outcome
-  wrong : ℕ → ℕ → Outcome
+pub data Taken : Type 0 where
+  fine : Tally → Taken
+  wrong : ℕ → ℕ → Taken
 
 -- Each message is judged against what those before it leave.
-unfoldable pub takeAll : Tally → ℕ → List Message → Outcome
+unfoldable pub takeAll : Tally → ℕ → List Message → Taken
 takeAll t place [] = fine t
 takeAll t place (m ∷ ms) =
     let v = verdict (t .transactions) (length (t .memory)) m in
@@ -112,7 +116,7 @@ accepting p num t =
           (record { messages = t .messages; bytes = t .bytes; completed = t .completed });
     }
 
-abbrev pub concluded : Pair → List ℕ → ℕ → Outcome → Received
+abbrev pub concluded : Pair → List ℕ → ℕ → Taken → Received
 concluded p memory num (fine t) = accepting p num t
 concluded p memory num (wrong r place) = unchanged p memory (refused r place)
 
@@ -122,10 +126,11 @@ transactionsOf p = record { lowest = p .lowest .0; closed = p .closed; table = p
 abbrev pub tallyOf : Pair → List ℕ → Tally
 tallyOf p memory = record { transactions = transactionsOf p; memory = memory; messages = 0; bytes = 0; completed = 0 }
 
--- A frame with messages, d past the next one: behind from 32,768 on, in the window up to 63 and ahead between. What is behind,
--- or in the window and accepted, is answered "again"; what is ahead gets 6; else its messages are taken in.
-unfoldable pub numbered : Pair → List ℕ → ℕ → List Message → Received
-numbered p memory num ms =
+-- A frame with messages, d past the next one: behind from 32,768 on, in the window up to 63 and ahead between (behind and ahead are
+-- terms of the rules). What is behind, or in the window and accepted, is answered "again"; what is ahead gets 6; else its messages
+-- are taken in.
+unfoldable pub byNumber : Pair → List ℕ → ℕ → List Message → Received
+byNumber p memory num ms =
     let d = distance frameSpace (p .next .0) num in
     cond (leb 32768 d) (unchanged p memory (Again (record { 0 = num })))
     (cond (leb 64 d) (unchanged p memory (refused 6 0))
@@ -135,7 +140,7 @@ numbered p memory num ms =
 abbrev pub answered : Pair → List ℕ → List ℕ → Read → Received
 answered p f memory (bad r) = unchanged p memory (refused r 0)
 answered p f memory (good ms) =
-    cond (eqb (flags f) 0) (unchanged p memory NoMessages) (numbered p memory (number f) ms)
+    cond (eqb (flags f) 0) (unchanged p memory NoMessages) (byNumber p memory (number f) ms)
 
 unfoldable pub receiveOf : Pair → List ℕ → List ℕ → Received
 receiveOf p f memory = answered p f memory (readFrame (addressed (p .own) (p .peer) f) f)
@@ -147,20 +152,16 @@ steppedOf r = record { pair = r .pair; answer = r .answer }
 
 -- The frame numbers that an answer acknowledges: `count` of them from `start` on. Accepted and again acknowledge exactly their
 -- own number.
-pub record Range : Type 0 where
-  pub start : ℕ
-  pub count : ℕ
-
 abbrev pub rangeOf : Answer → Range
-rangeOf (Accepted n sums) = record { start = n .0; count = 1 }
-rangeOf (Again n) = record { start = n .0; count = 1 }
-rangeOf NoMessages = record { start = 0; count = 0 }
-rangeOf (Refused r) = record { start = 0; count = 0 }
+rangeOf (Accepted n sums) = record { start = n; count = 1 }
+rangeOf (Again n) = record { start = n; count = 1 }
+rangeOf NoMessages = record { start = record { 0 = 0 }; count = 0 }
+rangeOf (Refused r) = record { start = record { 0 = 0 }; count = 0 }
 
 -- An acknowledgement is due where the range is not empty; it goes from the pair's own ID to the peer's and carries the number
 -- that the caller gives.
 unfoldable pub acknowledgementOf : ℕ → ℕ → Answer → ℕ → Acknowledgement
 acknowledgementOf own peer a num = record {
   due = ltb 0 (rangeOf a .count);
-  frame = ackFrame peer own num (rangeOf a .start) (rangeOf a .count);
+  frame = ackFrame peer own num (rangeOf a .start .0) (rangeOf a .count);
 }

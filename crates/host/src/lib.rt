@@ -5,7 +5,7 @@ use seq::FrameNo;
 use seq::TransNo;
 use transactions::Open;
 ghost use mathlib.Core.Path.{_≡_};
-ghost use Rattle.host.specs.Host.{fresh, openedOf, acknowledgementOf};
+ghost use Rattle.host.specs.Host.{fresh, refusedOpening, openedOf, rangeOf, acknowledgementOf};
 
 // What the host knows of its peer's frames and transactions. Bit i of marks stands for the frame next + i and is set where that
 // was accepted; bit i of closed for the transaction lowest + i. An open transaction is in the place of the table that its number
@@ -51,6 +51,17 @@ pub struct Stepped {
     pub answer: Answer,
 }
 
+// Frame numbers: count of them from start on.
+pub struct Range {
+    pub start: FrameNo,
+    pub count: u8,
+}
+
+const NO_RANGE: Range = Range {
+    start: FrameNo(0),
+    count: 0,
+};
+
 // Ten bytes to be sent where due.
 pub struct Acknowledgement {
     pub due: bool,
@@ -67,12 +78,20 @@ fn fresh_pair(own: u16, peer: u16) -> Pair
         marks: 0,
         lowest: TransNo(0),
         closed: 0,
-        table: [Open {
-            count: 0,
-            target: 0,
-            value: 0,
-            received: 0,
-        }; 32],
+        table: [transactions::FREE; 32],
+    }
+}
+
+// A refused opening: a fresh pair with both IDs 0.
+fn refused_opening() -> Opened
+    ensures { λ r. ⌜ r ≡ refusedOpening ⌝ }
+{
+    Opened {
+        pair: fresh_pair(0, 0),
+        refusal: Refusal {
+            number: refusal::ID_ZERO,
+            place: 0,
+        },
     }
 }
 
@@ -81,22 +100,10 @@ pub fn open_pair(own: u16, peer: u16) -> Opened
     ensures { λ r. ⌜ r ≡ openedOf own peer ⌝ }
 {
     if own == 0 {
-        return Opened {
-            pair: fresh_pair(0, 0),
-            refusal: Refusal {
-                number: refusal::ID_ZERO,
-                place: 0,
-            },
-        };
+        return refused_opening();
     }
     if peer == 0 {
-        return Opened {
-            pair: fresh_pair(0, 0),
-            refusal: Refusal {
-                number: refusal::ID_ZERO,
-                place: 0,
-            },
-        };
+        return refused_opening();
     }
     Opened {
         pair: fresh_pair(own, peer),
@@ -107,26 +114,26 @@ pub fn open_pair(own: u16, peer: u16) -> Opened
     }
 }
 
+// The frame numbers that an answer acknowledges.
+fn range_of(answer: Answer) -> Range
+    ensures { λ r. ⌜ r ≡ rangeOf answer ⌝ }
+{
+    match answer {
+        Answer::Accepted(n, _) => Range { start: n, count: 1 },
+        Answer::Again(n) => Range { start: n, count: 1 },
+        Answer::NoMessages => NO_RANGE,
+        Answer::Refused(_) => NO_RANGE,
+    }
+}
+
 // The acknowledgement that an answer calls for, from an end whose next message frame will have this number.
 pub fn acknowledge(own: u16, peer: u16, answer: Answer, number: FrameNo) -> Acknowledgement
     ensures { λ r. ⌜ r ≡ acknowledgementOf own peer answer (number .0) ⌝ }
 {
-    match answer {
-        Answer::Accepted(n, _) => Acknowledgement {
-            due: true,
-            frame: headers::ack_frame(peer, own, number, n, 1),
-        },
-        Answer::Again(n) => Acknowledgement {
-            due: true,
-            frame: headers::ack_frame(peer, own, number, n, 1),
-        },
-        Answer::NoMessages => Acknowledgement {
-            due: false,
-            frame: headers::ack_frame(peer, own, number, FrameNo(0), 0),
-        },
-        Answer::Refused(_) => Acknowledgement {
-            due: false,
-            frame: headers::ack_frame(peer, own, number, FrameNo(0), 0),
-        },
+    let range = range_of(answer);
+    let start = range.start;
+    Acknowledgement {
+        due: 0 < range.count,
+        frame: headers::ack_frame(peer, own, number, start, range.count),
     }
 }

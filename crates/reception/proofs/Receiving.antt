@@ -27,7 +27,7 @@ use Rattle.host.specs.Host.{
   transactionsOf,
   tallyOf,
   takeAll,
-  numbered,
+  byNumber,
   receiveOf,
   steppedOf,
 }
@@ -35,10 +35,10 @@ use Rattle.host.proofs.Receiving.{
   reading,
   received-bad,
   received-good,
-  numbered-behind,
-  numbered-ahead,
-  numbered-again,
-  numbered-new,
+  by-number-behind,
+  by-number-ahead,
+  by-number-again,
+  by-number-new,
 }
 use Rattle.receive_window.specs.Answers.{acceptedPair, stepped, refusedWith, numberAnswered}
 use Rattle.judging.specs.declared.Judged.{Judged}
@@ -75,18 +75,18 @@ module _ (p : Pair) (f memory : List ℕ) (num d : ℕ) (w : Awaited p f num d) 
 
   -- it has messages
   awaited-some : (ms : List Message) → messagesFrom (length f) f 10 ≡ some ms
-      → (refusalOf (reading p f memory) ≡ 0) × (receiveOf p f memory ≡ numbered p memory num ms)
+      → (refusalOf (reading p f memory) ≡ 0) × (receiveOf p f memory ≡ byNumber p memory num ms)
   awaited-some ms e =
       let q = awaited-read ∙ ap orPassesEnd e in (
         ap refusalOf q,
-        received-good p f memory ms q (λ z. omega (arith, z, w .flag)) ∙ ap (λ (n : ℕ). numbered p memory n ms) (sym (w .num-is)),
+        received-good p f memory ms q (λ z. omega (arith, z, w .flag)) ∙ ap (λ (n : ℕ). byNumber p memory n ms) (sym (w .num-is)),
       )
 
   -- behind, ahead or accepted already: the layout's refusal, or by where the number lies; memory is not touched
-  pub by-number : (64 ≤ d) ⊎ (mark (p .marks) d ≡ true)
+  pub answered-by-number : (64 ≤ d) ⊎ (mark (p .marks) d ≡ true)
       → (numberAnswered p f num d ≡ steppedOf (receiveOf p f memory)) × (memory ≡ receiveOf p f memory .memory)
   unfolding numberAnswered
-  by-number old = cut (messagesFrom (length f) f 10) refl
+  answered-by-number old = cut (messagesFrom (length f) f 10) refl
     where
       Settled : Type 0
       Settled = (numberAnswered p f num d ≡ steppedOf (receiveOf p f memory)) × (memory ≡ receiveOf p f memory .memory)
@@ -96,15 +96,15 @@ module _ (p : Pair) (f memory : List ℕ) (num d : ℕ) (w : Awaited p f num d) 
 
       lies : (ms : List Message) → messagesFrom (length f) f 10 ≡ some ms → Dec (32768 ≤ d) → Dec (64 ≤ d) → Settled
       lies ms e (yes h) _ =
-          settled (Again (record { 0 = num })) (awaited-some ms e .1 ∙ numbered-behind p memory num d ms (w .d-is) h)
+          settled (Again (record { 0 = num })) (awaited-some ms e .1 ∙ by-number-behind p memory num d ms (w .d-is) h)
           (rw (awaited-some ms e .0, le-leb 32768 d h))
       lies ms e (no h) (yes k) =
-          settled (refused 6 0) (awaited-some ms e .1 ∙ numbered-ahead p memory num d ms (w .d-is) k (omega (arith, h)))
+          settled (refused 6 0) (awaited-some ms e .1 ∙ by-number-ahead p memory num d ms (w .d-is) k (omega (arith, h)))
           (rw (awaited-some ms e .0, lt-leb 32768 d (omega (arith, h)), le-ltb d 64 k))
       lies ms e (no h) (no k) =
           let m = ⊎-elim (λ far. absurd (omega (arith, far, k))) (λ m. m) old in
           settled (Again (record { 0 = num }))
-          (awaited-some ms e .1 ∙ numbered-again p memory num d ms (w .d-is) (omega (arith, k)) m)
+          (awaited-some ms e .1 ∙ by-number-again p memory num d ms (w .d-is) (omega (arith, k)) m)
           (rw (awaited-some ms e .0, lt-leb 32768 d (omega (arith, h)), lt-ltb d 64 (omega (arith, k))))
 
       cut : (r : Option (List Message)) → messagesFrom (length f) f 10 ≡ r → Settled
@@ -125,7 +125,7 @@ module _ (p : Pair) (f memory : List ℕ) (num d : ℕ) (w : Awaited p f num d) 
     -- both passes, where the messages are these
     received-new : (ms : List Message) → messagesFrom (length f) f 10 ≡ some ms
         → receiveOf p f memory ≡ concluded p memory num (takeAll (tallyOf p memory) 0 ms)
-    received-new ms e = awaited-some ms e .1 ∙ numbered-new p memory num d ms (w .d-is) new clear
+    received-new ms e = awaited-some ms e .1 ∙ by-number-new p memory num d ms (w .d-is) new clear
 
     refused-new : (ms : List Message) → messagesFrom (length f) f 10 ≡ some ms → found .refusal ≢ 0
         → receiveOf p f memory ≡ unchanged p memory (refused (found .refusal) (found .messages))

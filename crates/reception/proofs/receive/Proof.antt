@@ -14,7 +14,7 @@ use Rattle.host.specs.declared.Pair.{Pair}
 use Rattle.host.specs.Host.{Received, steppedOf}
 use Rattle.reception.specs.Reception.{Awaited}
 use Rattle.host.proofs.Receiving.{received-bad, received-empty}
-use Rattle.reception.proofs.Receiving.{by-number}
+use Rattle.reception.proofs.Receiving.{answered-by-number}
 use borrow.Author.Needs.{needs}
 use Rattle.reception.proofs.receive.Statement.{statement}
 use Rattle.reception.proofs.receive.Tie as tie
@@ -87,7 +87,7 @@ returns-3 c =
     let h = heading-stands _ (a .f .now) _ (headed .before .heading-refusal .ensures) (headed .if1 .left) in
     let w = awaited (a .pair) (a .f .now) h _ (flagged .before .before .frame-header .ensures) (flagged .if2 .left) _
     (near .before .distance .ensures) in
-    let r = by-number (a .pair) (a .f .now) (a .memory .now) _ _ w (inl (near .if3 .taken)) in
+    let r = answered-by-number (a .pair) (a .f .now) (a .memory .now) _ _ w (inl (near .if3 .taken)) in
     (c .answer-by-number .ensures ∙ r .0, r .1)
 
 cast-is-marked : tie.Need-cast-is-marked
@@ -109,7 +109,7 @@ returns-4 c =
     let h = heading-stands _ (a .f .now) _ (headed .before .heading-refusal .ensures) (headed .if1 .left) in
     let w = awaited (a .pair) (a .f .now) h _ (flagged .before .before .frame-header .ensures) (flagged .if2 .left) _
     (near .before .distance .ensures) in
-    let r = by-number (a .pair) (a .f .now) (a .memory .now) _ _ w (inr (sym (marked .before .is-marked .ensures) ∙ marked .if4 .taken)) in
+    let r = answered-by-number (a .pair) (a .f .now) (a .memory .now) _ _ w (inr (sym (marked .before .is-marked .ensures) ∙ marked .if4 .taken)) in
     (c .answer-by-number2 .ensures ∙ r .0, r .1)
 
 judge-closing-requires : tie.Need-judge-closing-requires
