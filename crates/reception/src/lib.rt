@@ -70,7 +70,7 @@ pub fn receive(pair: Pair, f: &[u8], memory: &mut [u8]) -> Stepped
     ensures { λ r. ⌜ r ≡ steppedOf (receiveOf pair (now (f .entry)) (now (memory .entry))) ⌝ }
     ensures { λ _. ⌜ now (memory .exit) ≡ receiveOf pair (now (f .entry)) (now (memory .entry)) .memory ⌝ }
 {
-    let stop = layout::heading_refusal(f, pair.own, pair.peer);
+    let stop = heading::heading_refusal(f, pair.own, pair.peer);
     if stop != 0 {
         return receive_window::refusing(pair, stop, 0);
     }

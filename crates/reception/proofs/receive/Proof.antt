@@ -27,7 +27,7 @@ use Rattle.reception.proofs.take_closing.Reads as take-closing-reads
 use Rattle.reception.proofs.take_in.Reads as take-in-reads
 use Rattle.marks.proofs.word64.is_marked.Reads as is-marked-reads
 use Rattle.reader.proofs.frame_header.Reads as frame-header-reads
-use Rattle.layout.proofs.heading_refusal.Reads as heading-refusal-reads
+use Rattle.heading.proofs.heading_refusal.Reads as heading-refusal-reads
 use Rattle.seq.proofs.FrameNo.distance.Reads as distance-reads
 
 -- a frame with messages that passed the checks of its heading
