@@ -8,7 +8,7 @@ use libc::STDIN_FILENO;
 use libc::STDOUT_FILENO;
 use report::Totals;
 ghost use mathlib.Core.Path.{_≡_};
-ghost use Prim.Native.Nat.{_≤_};
+ghost use Prim.Native.Nat.{_≤_, _<_};
 ghost use lib.ListN.{length};
 
 // Lines that are answered.
@@ -74,6 +74,28 @@ fn make_room(out: &[u8], used: usize, failed: bool) -> Room {
     }
 }
 
+// Where the replay stands after a line that has ended: answered, and the next one not begun.
+fn answer_ended(state: Replay, frame: &[u8], memory: &mut [u8], out: &mut [u8]) -> Replay
+    requires { ⌜ state .lines < 1000000 ⌝ }
+{
+    let before = state.pair;
+    let line = state.line;
+    let totals = state.totals;
+    let step = report::answer_line(before, line, frame, memory);
+    let pair = step.pair;
+    let answer = step.answer;
+    let room = make_room(out, state.used, state.failed);
+    let used = report::put_answer(out, room.used, answer);
+    Replay {
+        pair,
+        line: Line::start(),
+        totals: totals.with(answer),
+        lines: state.lines + 1,
+        used,
+        failed: room.failed,
+    }
+}
+
 // Takes in the characters of a piece, and answers each line that ends in it.
 fn take_piece(
     at_start: Replay,
@@ -82,41 +104,20 @@ fn take_piece(
     memory: &mut [u8],
     out: &mut [u8],
 ) -> Replay {
-    let mut pair = at_start.pair;
-    let mut line = at_start.line;
-    let mut totals = at_start.totals;
-    let mut lines = at_start.lines;
-    let mut used = at_start.used;
-    let mut failed = at_start.failed;
+    let mut state = at_start;
     let mut at = 0;
-    while at < piece.len() && lines < LINES_MOST {
+    while at < piece.len() && state.lines < LINES_MOST {
+        let line = state.line;
         let taken = hexfeed::take_in(line, frame, piece, at);
         let now = taken.line;
         at = taken.at;
-        line = now;
+        state.line = now;
         if taken.ended {
-            let step = report::answer_line(pair, now, frame, memory);
-            let after = step.pair;
-            let answer = step.answer;
-            pair = after;
-            let room = make_room(out, used, failed);
-            failed = room.failed;
-            used = report::put_answer(out, room.used, answer);
-            let sums = totals.with(answer);
-            totals = sums;
-            let fresh = Line::start();
-            line = fresh;
-            lines += 1;
+            let next = answer_ended(state, frame, memory, out);
+            state = next;
         }
     }
-    Replay {
-        pair,
-        line,
-        totals,
-        lines,
-        used,
-        failed,
-    }
+    state
 }
 
 // Reads once.

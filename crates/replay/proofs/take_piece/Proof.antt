@@ -15,12 +15,8 @@ use Rattle.replay.proofs.take_piece.Statement.{statement}
 use Rattle.replay.proofs.take_piece.Tie as tie
 use Rattle.replay.proofs.take_piece.Reads as reads
 use Rattle.replay.proofs.take_piece.Lts as lts
-use Rattle.hexline.proofs.Line.start.Reads as start-reads
 use Rattle.hexfeed.proofs.take_in.Reads as take-in-reads
-use Rattle.replay.proofs.make_room.Reads as make-room-reads
-use Rattle.report.proofs.Totals.with.Reads as with-reads
-use Rattle.report.proofs.answer_line.Reads as answer-line-reads
-use Rattle.report.proofs.put_answer.Reads as put-answer-reads
+use Rattle.replay.proofs.answer_ended.Reads as answer-ended-reads
 
 -- what was taken in ends further on
 further : (t : Taken) (line : Line) (frame : List ℕ) (from : ℕ) (piece : List ℕ)
@@ -28,12 +24,11 @@ further : (t : Taken) (line : Line) (frame : List ℕ) (from : ℕ) (piece : Lis
 further t line frame from piece e l = rw e (taken-further line frame from piece l)
 
 abbrev Inv-loop : tie.InvT-loop
-Inv-loop piece frame₀ memory₀ out₀ pair₀ line₀ totals₀ lines₀ used₀ failed₀ at₀ frame memory out pair line totals lines used failed at =
+Inv-loop piece frame₀ memory₀ out₀ state₀ at₀ frame memory out state at =
     (length frame ≡ length frame₀) × (length memory ≡ length memory₀) × (length out ≡ length out₀)
 
 abbrev μ-loop : tie.MeasureT-loop
-μ-loop piece frame₀ memory₀ out₀ pair₀ line₀ totals₀ lines₀ used₀ failed₀ at₀ frame memory out pair line totals lines used failed at =
-    length piece - at
+μ-loop piece frame₀ memory₀ out₀ state₀ at₀ frame memory out state at = length piece - at
 
 loop-holds : tie.Need-loop-holds Inv-loop μ-loop
 loop-holds c = (refl, refl, refl)
@@ -41,59 +36,44 @@ loop-holds c = (refl, refl, refl)
 take-in-requires : tie.Need-take-in-requires Inv-loop μ-loop
 take-in-requires c κs = search needs
 
-answer-line-requires : tie.Need-answer-line-requires Inv-loop μ-loop
-answer-line-requires c κs = search needs
-
-make-room-requires : tie.Need-make-room-requires Inv-loop μ-loop
-make-room-requires c κs = search needs
-
-put-answer-requires : tie.Need-put-answer-requires Inv-loop μ-loop
-put-answer-requires c κs = search needs
-
-with-requires : tie.Need-with-requires Inv-loop μ-loop
-with-requires c κs = search needs
-
-start-requires : tie.Need-start-requires Inv-loop μ-loop
-start-requires c κs = search needs
-
-add-lines : tie.Need-add-lines Inv-loop μ-loop
-add-lines c =
-    let s = c .before .before .before .before .before .before .before .before .before .before .before .before .before .before .before .before .before .before in
-    omega (arith, ltb-true (s .before .before .before .before .loop .lines) 1000000 (s .before .before .if1 .taken))
+answer-ended-requires : tie.Need-answer-ended-requires Inv-loop μ-loop
+answer-ended-requires c κs =
+    let s = c .before .before .before .before .before .before .before .before .before .before in
+    omega (arith, ltb-true (s .before .before .before .loop .state .lines) 1000000 (s .if1 .taken))
 
 loop-less : tie.Need-loop-less Inv-loop μ-loop
 loop-less c =
-    let s = c .before .before .before .before .before .before .before .before .before .before .before .before .before .before .before .before .before .before in
-    let more = s .before .before .before .loop-test .taken in
+    let s = c .before .before .before .before .before .before .before .before .before .before .before .before in
+    let more = s .before .before .before .before .before .loop-test .taken in
     omega (arith, further _ _ _ _ _ (s .take-in .ensures .0) more, more)
 
 loop-again : tie.Need-loop-again Inv-loop μ-loop
 loop-again c =
-    let s = c .before .before .before .before .before .before .before .before .before .before .before in
-    let t = s .before .before .before .before .before .before .before in
-    let k = t .before .before .before .before .loop .inv in
-    (t .take-in .kept .1 .0 ∙ k .0, s .answer-line .kept .1 .1 .1 .0 ∙ k .1, c .before .before .before .before .put-answer .kept .0 ∙ k .2)
+    let e = c .before .before .before .before .answer-ended .kept .1 .1 in
+    let s = c .before .before .before .before .before .before .before .before .before .before .before .before in
+    let k = s .before .before .before .before .before .before .loop .inv in
+    (s .take-in .kept .1 .0 ∙ k .0, e .0 ∙ k .1, e .1 .0 ∙ k .2)
 
 loop-less-2 : tie.Need-loop-less-2 Inv-loop μ-loop
 loop-less-2 c =
     let s = c .before .before .before .before in
-    let more = s .before .before .before .loop-test .taken in
+    let more = s .before .before .before .before .before .loop-test .taken in
     omega (arith, further _ _ _ _ _ (s .take-in .ensures .0) more, more)
 
 loop-again-2 : tie.Need-loop-again-2 Inv-loop μ-loop
 loop-again-2 c =
     let s = c .before .before .before .before in
-    let k = s .before .before .before .before .loop .inv in
+    let k = s .before .before .before .before .before .before .loop .inv in
     (s .take-in .kept .1 .0 ∙ k .0, k .1, k .2)
 
 same-length : tie.Need-same-length Inv-loop μ-loop
-same-length c = c .before .before .loop .inv .0
+same-length c = c .before .before .before .loop .inv .0
 
 same-length-2 : tie.Need-same-length-2 Inv-loop μ-loop
-same-length-2 c = c .before .before .loop .inv .1
+same-length-2 c = c .before .before .before .loop .inv .1
 
 same-length-3 : tie.Need-same-length-3 Inv-loop μ-loop
-same-length-3 c = c .before .before .loop .inv .2
+same-length-3 c = c .before .before .before .loop .inv .2
 
 returns : tie.Need-returns Inv-loop μ-loop
 returns c = search needs
@@ -118,12 +98,7 @@ take-piece-spec =
     μ-loop
     loop-holds
     take-in-requires
-    answer-line-requires
-    make-room-requires
-    put-answer-requires
-    with-requires
-    start-requires
-    add-lines
+    answer-ended-requires
     loop-less
     loop-again
     loop-less-2
