@@ -1,6 +1,9 @@
 -- `kinds::frame_kind`: the first name that is the word.
 -- Assumes nothing.
-use mathlib.Core.Path.{sym, _∙_}
+use mathlib.Core.Path.{_≡_, sym, _∙_}
+use mathlib.Core.Bool.{true}
+use mathlib.Core.List.{[], _∷_}
+use Rattle.words.specs.Words.{sameText}
 use Rattle.kinds.specs.Kinds.{frameKind}
 use borrow.Author.Needs.{needs}
 use Rattle.kinds.proofs.frame_kind.Statement.{statement}
@@ -64,11 +67,14 @@ returns-4 c =
     let c7 = c6 .before in
     let c9 = c7 .before .before in
     let c10 = c9 .before in
+    let a = c10 .before .before .before .args in
+    let is-receive : sameText (a .word .now) (114 ∷ 101 ∷ 99 ∷ 101 ∷ 105 ∷ 118 ∷ 101 ∷ []) ≡ true =
+    sym (c .before .is-same4 .ensures) ∙ c .if4 .taken in
     rw (
       sym (c10 .is-same .ensures) ∙ c9 .if1 .left,
       sym (c7 .is-same2 .ensures) ∙ c6 .if2 .left,
       sym (c4 .is-same3 .ensures) ∙ c .before .before .before .if3 .left,
-      sym (c .before .is-same4 .ensures) ∙ c .if4 .taken,
+      is-receive,
     )
 
 slice-aggregate-is-same-5 : tie.Need-slice-aggregate-is-same-5
