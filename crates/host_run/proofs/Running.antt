@@ -9,7 +9,7 @@ use lib.ListN.{length, take, drop}
 use Rattle.host.specs.declared.Pair.{Pair}
 use Rattle.host.specs.declared.Stepped.{Stepped}
 use Rattle.host.specs.Host.{Received, receiveOf, steppedOf}
-use Rattle.host_run.specs.Run.{Run, bytesOf, runFrom}
+use Rattle.host_run.specs.Run.{Run, acceptedBytes, runFrom}
 
 -- k frames are done
 pub record Running (frames : List ℕ) (size n : ℕ) (p₀ : Pair) (memory₀ : List ℕ) (p : Pair) (memory : List ℕ) (bytes k : ℕ)
@@ -41,7 +41,7 @@ module _ {frames : List ℕ} {size n : ℕ} {p₀ : Pair} {memory₀ : List ℕ}
   pub running-turn : (s : Stepped) (left : List ℕ) (more sum : ℕ) → k < n → length left ≡ length memory
       → s ≡ steppedOf (receiveOf p (take size (drop (k * size) frames)) memory)
       → left ≡ receiveOf p (take size (drop (k * size) frames)) memory .memory
-      → more ≡ bytesOf (s .answer) → sum ≡ (bytes + more) % 2 ^ 64
+      → more ≡ acceptedBytes (s .answer) → sum ≡ (bytes + more) % 2 ^ 64
       → Running frames size n p₀ memory₀ (s .pair) left sum (k + 1)
   unfolding runFrom
   running-turn s left more sum l len s-is left-is more-is sum-is =

@@ -12,18 +12,18 @@ pub record Run : Type 0 where
   pub memory : List ℕ
   pub bytes : ℕ
 
-abbrev pub bytesOf : Answer → ℕ
-bytesOf (Accepted n sums) = sums .bytes
-bytesOf (Again n) = 0
-bytesOf NoMessages = 0
-bytesOf (Refused r) = 0
+abbrev pub acceptedBytes : Answer → ℕ
+acceptedBytes (Accepted n sums) = sums .bytes
+acceptedBytes (Again n) = 0
+acceptedBytes NoMessages = 0
+acceptedBytes (Refused r) = 0
 
 -- n frames from the k-th on.
 unfoldable pub runFrom : ℕ → List ℕ → ℕ → ℕ → Pair → List ℕ → ℕ → Run
 runFrom zero frames size k p memory bytes = record { memory = memory; bytes = bytes }
 runFrom (suc n) frames size k p memory bytes =
     let r = receiveOf p (take size (drop (k * size) frames)) memory in
-    runFrom n frames size (k + 1) (r .pair) (r .memory) ((bytes + bytesOf (r .answer)) % 2 ^ 64)
+    runFrom n frames size (k + 1) (r .pair) (r .memory) ((bytes + acceptedBytes (r .answer)) % 2 ^ 64)
 
 -- All of them, from a fresh pair of own ID 1 and peer 2.
 abbrev pub runOf : List ℕ → ℕ → List ℕ → Run

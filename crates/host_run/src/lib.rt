@@ -4,10 +4,10 @@
 use host::Answer;
 use host::Stepped;
 ghost use mathlib.Core.Path.{_≡_};
-ghost use Rattle.host_run.specs.Run.{bytesOf, runOf};
+ghost use Rattle.host_run.specs.Run.{acceptedBytes, runOf};
 
 fn bytes_of(answer: Answer) -> u64
-    ensures { λ r. ⌜ r ≡ bytesOf answer ⌝ }
+    ensures { λ r. ⌜ r ≡ acceptedBytes answer ⌝ }
 {
     match answer {
         Answer::Accepted(_, sums) => sums.bytes as u64,

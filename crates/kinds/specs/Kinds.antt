@@ -42,8 +42,8 @@ frameKind w =
     (cond (sameText w (108 ∷ 97 ∷ 121 ∷ 111 ∷ 117 ∷ 116 ∷ [])) Layout (questionKind w)))))
 
 -- card, host, open, add, seal
-unfoldable pub kindOf : List ℕ → Kind
-kindOf w =
+unfoldable pub kindNamed : List ℕ → Kind
+kindNamed w =
     cond (sameText w (99 ∷ 97 ∷ 114 ∷ 100 ∷ [])) Card
     (cond (sameText w (104 ∷ 111 ∷ 115 ∷ 116 ∷ [])) Host
     (cond (sameText w (111 ∷ 112 ∷ 101 ∷ 110 ∷ [])) Open

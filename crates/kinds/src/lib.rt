@@ -2,7 +2,7 @@
 // name of none is Other. It promises what specs/Kinds.antt says.
 ghost use mathlib.Core.Path.{_≡_};
 ghost use mathlib.Core.Bool.{true, false};
-ghost use Rattle.kinds.specs.Kinds.{questionKind, frameKind, kindOf, formOf};
+ghost use Rattle.kinds.specs.Kinds.{questionKind, frameKind, kindNamed, formOf};
 
 // The calls by name. Other is a line of no form.
 pub enum Kind {
@@ -73,7 +73,7 @@ fn frame_kind(word: &[u8]) -> Kind
 
 // The call of a name.
 pub fn kind_of(word: &[u8]) -> Kind
-    ensures { λ r. ⌜ r ≡ kindOf (now (word .entry)) ⌝ }
+    ensures { λ r. ⌜ r ≡ kindNamed (now (word .entry)) ⌝ }
 {
     if words::is_same(word, b"card") {
         return Kind::Card;

@@ -33,8 +33,8 @@ use Rattle.words.specs.declared.Number.{Number}
 use Rattle.words.specs.declared.Bytes.{Bytes}
 use Rattle.script.specs.declared.Call.{Call}
 use Rattle.kinds.specs.declared.Form.{Form}
-use Rattle.words.specs.Words.{wordLength, wordEnd, numberIn, spelled, bytesOf, frameOf}
-use Rattle.kinds.specs.Kinds.{kindOf, formOf}
+use Rattle.words.specs.Words.{wordLength, wordEnd, numberIn, spelled, spelledBytes, frameWith}
+use Rattle.kinds.specs.Kinds.{kindNamed, formOf}
 use Rattle.script.specs.Calls.{ReadOff, noneRead, readNumbers, noCall, callRest, frameRest, kindIn, numbersIn, callOf, callFrame}
 
 -- ---- numbers: what is left to read
@@ -135,8 +135,8 @@ module _ (frame line : List ℕ) (at : ℕ) (kind : Kind) (numbers : List ℕ) (
   p = take-all (length line - (at + 1)) (drop (at + 1) line) (omega (arith, length-drop (at + 1) line))
 
   module _ (t : takes ≡ true) (h : at < length line) (b : Bytes) (last : List ℕ)
-      (is : b ≡ bytesOf (spelled (length frame) (take (length line - (at + 1)) (drop (at + 1) line))))
-      (put : last ≡ frameOf frame (take (length line - (at + 1)) (drop (at + 1) line))) where
+      (is : b ≡ spelledBytes (spelled (length frame) (take (length line - (at + 1)) (drop (at + 1) line))))
+      (put : last ≡ frameWith frame (take (length line - (at + 1)) (drop (at + 1) line))) where
     pub rest-bad : b .good ≡ false
         → (noCall ≡ callRest (length frame) kind numbers takes (drop at line)) × (last ≡ frameRest frame takes (drop at line))
     unfolding callRest frameRest
@@ -174,7 +174,7 @@ module _ (frame line : List ℕ) where
       let t = lt-ltb 200000 (length line) h in
       (rw t, rw t)
 
-  module _ (short : length line ≤ 200000) (end : ℕ) (e : end ≡ wordEnd line 0) (kind : Kind) (k : kind ≡ kindOf (take end line))
+  module _ (short : length line ≤ 200000) (end : ℕ) (e : end ≡ wordEnd line 0) (kind : Kind) (k : kind ≡ kindNamed (take end line))
       (f : Form) (g : f ≡ formOf kind) (r : ReadOff)
       (q : r ≡ readNumbers (take (f .count) (f .most)) 0 (0 ∷ 0 ∷ 0 ∷ 0 ∷ 0 ∷ []) (drop end line)) where
     fits : ltb 200000 (length line) ≡ false

@@ -5,10 +5,10 @@ use mathlib.Core.Bool.{Bool, true, false, cond}
 use mathlib.Core.List.{List, [], _∷_}
 use lib.Dec.{ltb}
 use lib.ListN.{length, take, drop, set}
-use Rattle.words.specs.Words.{wordLength, numberIn, spelled, bytesOf, frameOf}
+use Rattle.words.specs.Words.{wordLength, numberIn, spelled, spelledBytes, frameWith}
 use Rattle.kinds.specs.declared.Kind.{Kind}
 use Rattle.kinds.specs.declared.Kind.the-variants.{Other}
-use Rattle.kinds.specs.Kinds.{kindOf, formOf}
+use Rattle.kinds.specs.Kinds.{kindNamed, formOf}
 use Rattle.script.specs.declared.Call.{Call}
 
 -- ---- numbers
@@ -41,17 +41,17 @@ callRest room kind numbers false [] = record { kind = kind; numbers = numbers; l
 callRest room kind numbers false (c ∷ cs) = noCall
 callRest room kind numbers true [] = noCall
 callRest room kind numbers true (c ∷ cs) =
-    let b = bytesOf (spelled room cs) in
+    let b = spelledBytes (spelled room cs) in
     cond (b .good) (record { kind = kind; numbers = numbers; len = b .len }) noCall
 
 unfoldable pub frameRest : List ℕ → Bool → List ℕ → List ℕ
 frameRest frame false cs = frame
 frameRest frame true [] = frame
-frameRest frame true (c ∷ cs) = frameOf frame cs
+frameRest frame true (c ∷ cs) = frameWith frame cs
 
 -- The name, and the numbers behind it.
 unfoldable pub kindIn : List ℕ → Kind
-kindIn line = kindOf (take (wordLength line) line)
+kindIn line = kindNamed (take (wordLength line) line)
 
 unfoldable pub numbersIn : List ℕ → ReadOff
 numbersIn line =

@@ -14,7 +14,7 @@ use lib.Seq.{sets, length-sets, drop-cons}
 use Rattle.io.specs.Digits.{digits}
 use Rattle.octets.specs.Octets.{inside, written}
 use Rattle.octets.proofs.Octets.{sets-append, inside-true, inside-le, written-inside, length-written}
-use Rattle.text.specs.Pieces.{Filled, from, put, putAll, joined, bytePiece, bytesPieces}
+use Rattle.text.specs.Pieces.{Filled, from, put, putAll, textOf, bytePiece, bytesPieces}
 
 -- ---- one piece
 
@@ -108,17 +108,17 @@ spelt-done (x ∷ xs) {b} {out} {end} {i} s l n =
 
 -- ---- with room for all of it the pieces are one text
 
-pub whole-text : (ps : List (List ℕ)) (out : List ℕ) (at : ℕ) → at + length (joined ps) ≤ length out
-    → putAll (from out at) ps ≡ from (sets out at (joined ps)) (at + length (joined ps))
-unfolding putAll put joined
+pub whole-text : (ps : List (List ℕ)) (out : List ℕ) (at : ℕ) → at + length (textOf ps) ≤ length out
+    → putAll (from out at) ps ≡ from (sets out at (textOf ps)) (at + length (textOf ps))
+unfolding putAll put textOf
 whole-text [] out at h = rw (add-zero at)
 whole-text (p ∷ ps) out at h =
-    let l = length-append p (joined ps) in
+    let l = length-append p (textOf ps) in
     let fits : at + length p ≤ length out = omega arith in
     let w : written out at p ≡ sets out at p = written-inside out at p fits in
     let i : inside out at (length p) ≡ true = inside-true out at (length p) fits in
     let ih = whole-text ps (sets out at p) (at + length p) (omega (arith, length-sets out at p)) in
-    rw (w, i, ih, l, ← sets-append out p (joined ps) at, add-assoc at (length p) (length (joined ps)))
+    rw (w, i, ih, l, ← sets-append out p (textOf ps) at, add-assoc at (length p) (length (textOf ps)))
 
 -- ---- no bytes at all
 

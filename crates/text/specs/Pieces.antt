@@ -25,9 +25,9 @@ putAll b [] = b
 putAll b (p ∷ ps) = putAll (put b p) ps
 
 -- The pieces as one text.
-unfoldable pub joined : List (List ℕ) → List ℕ
-joined [] = []
-joined (p ∷ ps) = p ++ joined ps
+unfoldable pub textOf : List (List ℕ) → List ℕ
+textOf [] = []
+textOf (p ∷ ps) = p ++ textOf ps
 
 -- Two digits for each byte, and `-` for no bytes.
 unfoldable pub bytePiece : ℕ → List ℕ

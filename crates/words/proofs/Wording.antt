@@ -30,8 +30,8 @@ use Rattle.words.specs.Words.{
   noNumber,
   numberIn,
   spelled,
-  bytesOf,
-  frameOf,
+  spelledBytes,
+  frameWith,
 }
 
 -- ---- where a word ends
@@ -239,8 +239,8 @@ newline-none (h ∷ l ∷ cs) e =
 
 module _ (frame word : List ℕ) where
   pub no-room : length frame < 9001
-      → (record { len = 0; good = false } ≡ bytesOf (spelled (length frame) word)) × (frame ≡ frameOf frame word)
-  unfolding spelled frameOf
+      → (record { len = 0; good = false } ≡ spelledBytes (spelled (length frame) word)) × (frame ≡ frameWith frame word)
+  unfolding spelled frameWith
   no-room h =
       let t = lt-ltb (length frame) 9001 h in
       (rw t, rw t)
@@ -250,8 +250,8 @@ module _ (frame word : List ℕ) where
     r = le-ltb (length frame) 9001 room
 
     pub no-bytes : length word ≡ 0
-        → (record { len = 0; good = false } ≡ bytesOf (spelled (length frame) word)) × (frame ≡ frameOf frame word)
-    unfolding spelled frameOf
+        → (record { len = 0; good = false } ≡ spelledBytes (spelled (length frame) word)) × (frame ≡ frameWith frame word)
+    unfolding spelled frameWith
     no-bytes e =
         let t = eq-eqb (length word) 0 e in
         (rw (r, t), rw (r, t))
@@ -261,8 +261,8 @@ module _ (frame word : List ℕ) where
       n = ne-eqb (length word) 0 some-there
 
       pub dash : sameText word (45 ∷ []) ≡ true
-          → (record { len = 0; good = true } ≡ bytesOf (spelled (length frame) word)) × (frame ≡ frameOf frame word)
-      unfolding spelled frameOf
+          → (record { len = 0; good = true } ≡ spelledBytes (spelled (length frame) word)) × (frame ≡ frameWith frame word)
+      unfolding spelled frameWith
       dash e = (rw (r, n, e), rw (r, n, e))
 
       module _ (no-dash : sameText word (45 ∷ []) ≡ false) (t : Taken) (last : List ℕ) (is : t ≡ takenFrom start frame 0 word)
@@ -271,12 +271,12 @@ module _ (frame word : List ℕ) where
         unfolding spelled
         reads = rw (r, n, no-dash)
 
-        puts : last ≡ frameOf frame word
-        unfolding frameOf
+        puts : last ≡ frameWith frame word
+        unfolding frameWith
         puts = put ∙ rw (r, n, no-dash)
 
         pub with-newline : t .ended ≡ true
-            → (record { len = 0; good = false } ≡ bytesOf (spelled (length frame) word)) × (last ≡ frameOf frame word)
+            → (record { len = 0; good = false } ≡ spelledBytes (spelled (length frame) word)) × (last ≡ frameWith frame word)
         unfolding takenFrom
         with-newline e =
             let h : hasNewline word ≡ true = sym (ap (λ (x : Taken). x .ended) is) ∙ e in
@@ -290,10 +290,10 @@ module _ (frame word : List ℕ) where
               ap (λ (x : Taken). x .line) is ∙ rw (all-of-it word h)
 
           pub bad-bytes : refusedLine (t .line) ≡ true
-              → (record { len = 0; good = false } ≡ bytesOf (spelled (length frame) word)) × (last ≡ frameOf frame word)
+              → (record { len = 0; good = false } ≡ spelledBytes (spelled (length frame) word)) × (last ≡ frameWith frame word)
           bad-bytes q = (rw reads (go (decode word) refl), puts)
             where
-              go : (o : Option (List ℕ)) → decode word ≡ o → record { len = 0; good = false } ≡ bytesOf o
+              go : (o : Option (List ℕ)) → decode word ≡ o → record { len = 0; good = false } ≡ spelledBytes o
               go none d = refl
               go (some f) d =
                   let s = line-spelled word f frame room d .not-refused in
@@ -302,11 +302,11 @@ module _ (frame word : List ℕ) where
                   absurd (omega arith)
 
           pub good-bytes : refusedLine (t .line) ≡ false
-              → (record { len = t .line .len; good = true } ≡ bytesOf (spelled (length frame) word))
-              × (last ≡ frameOf frame word)
+              → (record { len = t .line .len; good = true } ≡ spelledBytes (spelled (length frame) word))
+              × (last ≡ frameWith frame word)
           good-bytes q = (rw reads (go (decode word) refl), puts)
             where
-              go : (o : Option (List ℕ)) → decode word ≡ o → record { len = t .line .len; good = true } ≡ bytesOf o
+              go : (o : Option (List ℕ)) → decode word ≡ o → record { len = t .line .len; good = true } ≡ spelledBytes o
               go none d =
                   let x : false ≡ true = sym q ∙ rw line-is (line-refused word frame d) in
                   let z : _≡_ {A = ℕ} 0 1 = cc in

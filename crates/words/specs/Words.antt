@@ -53,12 +53,12 @@ spelled room word =
     cond (ltb room 9001) none
     (cond (eqb (length word) 0) none (cond (sameText word (45 ∷ [])) (some []) (decode word)))
 
-abbrev pub bytesOf : Option (List ℕ) → Bytes
-bytesOf none = record { len = 0; good = false }
-bytesOf (some bs) = record { len = min (length bs) 9001; good = true }
+abbrev pub spelledBytes : Option (List ℕ) → Bytes
+spelledBytes none = record { len = 0; good = false }
+spelledBytes (some bs) = record { len = min (length bs) 9001; good = true }
 
 -- The buffer then: the bytes are put at its start as they are read.
-unfoldable pub frameOf : List ℕ → List ℕ → List ℕ
-frameOf frame word =
+unfoldable pub frameWith : List ℕ → List ℕ → List ℕ
+frameWith frame word =
     cond (ltb (length frame) 9001) frame
     (cond (eqb (length word) 0) frame (cond (sameText word (45 ∷ [])) frame (frameAfter start frame word)))

@@ -3,11 +3,12 @@
 // the buffers lent.
 use hexline::Line;
 ghost use mathlib.Core.Path.{_≡_};
+ghost use mathlib.Core.Option.{none};
 ghost use Prim.Native.Nat.{_≤_};
 ghost use lib.ListN.{length, drop};
 ghost use Rattle.hexline.specs.Line.{upToNewline};
 ghost use Rattle.words.specs.Lines.{kept, keepAll, gatheredFrom};
-ghost use Rattle.words.specs.Words.{wordEnd, sameText, numberIn, spelled, bytesOf, frameOf};
+ghost use Rattle.words.specs.Words.{wordEnd, sameText, noNumber, numberIn, spelled, spelledBytes, frameWith};
 
 // Characters of a line that are kept: one more than a line may have, so that a longer one still reads as too long.
 const KEPT: usize = 200001;
@@ -106,38 +107,35 @@ fn wide(b: u8) -> u64
     b as u64
 }
 
+fn no_number() -> Number
+    ensures { λ r. ⌜ r ≡ noNumber ⌝ }
+{
+    Number {
+        value: 0,
+        good: false,
+    }
+}
+
 // The number that a word says in decimal, up to a bound.
 pub fn decimal_in(word: &[u8], most: u32) -> Number
     ensures { λ r. ⌜ r ≡ numberIn most (now (word .entry)) ⌝ }
 {
     if word.len() == 0 {
-        return Number {
-            value: 0,
-            good: false,
-        };
+        return no_number();
     }
     let mut value: u64 = 0;
     let mut i = 0;
     while i < word.len() {
         let c = wide(word[i]);
         if c < 48 {
-            return Number {
-                value: 0,
-                good: false,
-            };
+            return no_number();
         }
         if 57 < c {
-            return Number {
-                value: 0,
-                good: false,
-            };
+            return no_number();
         }
         value = value * 10 + (c - 48);
         if (most as u64) < value {
-            return Number {
-                value: 0,
-                good: false,
-            };
+            return no_number();
         }
         i += 1;
     }
@@ -147,22 +145,25 @@ pub fn decimal_in(word: &[u8], most: u32) -> Number
     }
 }
 
+fn none_spelled() -> Bytes
+    ensures { λ r. ⌜ r ≡ spelledBytes none ⌝ }
+{
+    Bytes {
+        len: 0,
+        good: false,
+    }
+}
+
 // The bytes that a word says in hexadecimal, put at the start of frame.
 pub fn bytes_in(word: &[u8], frame: &mut [u8]) -> Bytes
-    ensures { λ r. ⌜ r ≡ bytesOf (spelled (length (now (frame .entry))) (now (word .entry))) ⌝ }
-    ensures { λ _. ⌜ now (frame .exit) ≡ frameOf (now (frame .entry)) (now (word .entry)) ⌝ }
+    ensures { λ r. ⌜ r ≡ spelledBytes (spelled (length (now (frame .entry))) (now (word .entry))) ⌝ }
+    ensures { λ _. ⌜ now (frame .exit) ≡ frameWith (now (frame .entry)) (now (word .entry)) ⌝ }
 {
     if frame.len() < BYTES_KEPT {
-        return Bytes {
-            len: 0,
-            good: false,
-        };
+        return none_spelled();
     }
     if word.len() == 0 {
-        return Bytes {
-            len: 0,
-            good: false,
-        };
+        return none_spelled();
     }
     if is_same(word, b"-") {
         return Bytes { len: 0, good: true };
@@ -170,16 +171,10 @@ pub fn bytes_in(word: &[u8], frame: &mut [u8]) -> Bytes
     let taken = hexfeed::take_in(Line::start(), frame, word, 0);
     let line = taken.line;
     if taken.ended {
-        return Bytes {
-            len: 0,
-            good: false,
-        };
+        return none_spelled();
     }
     if line.is_refused() {
-        return Bytes {
-            len: 0,
-            good: false,
-        };
+        return none_spelled();
     }
     Bytes {
         len: line.len,

@@ -1,7 +1,7 @@
 -- `kinds::kind_of`: the first name that is the word.
 -- Assumes nothing.
 use mathlib.Core.Path.{sym, _∙_}
-use Rattle.kinds.specs.Kinds.{kindOf}
+use Rattle.kinds.specs.Kinds.{kindNamed}
 use borrow.Author.Needs.{needs}
 use Rattle.kinds.proofs.kind_of.Statement.{statement}
 use Rattle.kinds.proofs.kind_of.Tie as tie
@@ -17,7 +17,7 @@ is-same-requires : tie.Need-is-same-requires
 is-same-requires c κs = search needs
 
 returns : tie.Need-returns
-unfolding kindOf
+unfolding kindNamed
 returns c = rw (sym (c .before .is-same .ensures) ∙ c .if1 .taken)
 
 slice-aggregate-is-same-2 : tie.Need-slice-aggregate-is-same-2
@@ -27,7 +27,7 @@ is-same-requires-2 : tie.Need-is-same-requires-2
 is-same-requires-2 c κs = search needs
 
 returns-2 : tie.Need-returns-2
-unfolding kindOf
+unfolding kindNamed
 returns-2 c =
     let c4 = c .before .before .before .before in
     rw (sym (c4 .is-same .ensures) ∙ c .before .before .before .if1 .left, sym (c .before .is-same2 .ensures) ∙ c .if2 .taken)
@@ -39,7 +39,7 @@ is-same-requires-3 : tie.Need-is-same-requires-3
 is-same-requires-3 c κs = search needs
 
 returns-3 : tie.Need-returns-3
-unfolding kindOf
+unfolding kindNamed
 returns-3 c =
     let c4 = c .before .before .before .before in
     let c6 = c4 .before .before in
@@ -57,7 +57,7 @@ is-same-requires-4 : tie.Need-is-same-requires-4
 is-same-requires-4 c κs = search needs
 
 returns-4 : tie.Need-returns-4
-unfolding kindOf
+unfolding kindNamed
 returns-4 c =
     let c4 = c .before .before .before .before in
     let c6 = c4 .before .before in
@@ -78,7 +78,7 @@ is-same-requires-5 : tie.Need-is-same-requires-5
 is-same-requires-5 c κs = search needs
 
 returns-5 : tie.Need-returns-5
-unfolding kindOf
+unfolding kindNamed
 returns-5 c =
     let c4 = c .before .before .before .before in
     let c6 = c4 .before .before in
@@ -100,7 +100,7 @@ frame-kind-requires : tie.Need-frame-kind-requires
 frame-kind-requires c κs = search needs
 
 returns-6 : tie.Need-returns-6
-unfolding kindOf
+unfolding kindNamed
 returns-6 c =
     let c4 = c .before .before .before .before in
     let c5 = c4 .before in

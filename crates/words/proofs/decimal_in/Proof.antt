@@ -1,5 +1,6 @@
 -- `words::decimal_in` reads digit by digit, and stops once the bound is passed.
 -- Assumes nothing.
+use mathlib.Core.Path.{_∙_}
 use native.Mathlib.Omega.{arith}
 use Prim.Native.Nat.{_-_}
 use lib.ListN.{length}
@@ -18,6 +19,7 @@ use Rattle.words.proofs.decimal_in.Statement.{statement}
 use Rattle.words.proofs.decimal_in.Tie as tie
 use Rattle.words.proofs.decimal_in.Reads as reads
 use Rattle.words.proofs.decimal_in.Lts as lts
+use Rattle.words.proofs.no_number.Reads as no-number-reads
 use Rattle.words.proofs.wide.Reads as wide-reads
 
 abbrev Inv-loop : tie.InvT-loop
@@ -26,8 +28,13 @@ Inv-loop word most value₀ i₀ value i = Counted word most value i
 abbrev μ-loop : tie.MeasureT-loop
 μ-loop word most value₀ i₀ value i = length word - i
 
+no-number-requires : tie.Need-no-number-requires Inv-loop μ-loop
+no-number-requires c κs = search needs
+
 returns : tie.Need-returns Inv-loop μ-loop
-returns c = no-word _ _ (c .if1 .taken)
+returns c =
+    let b = c .before in
+    c .no-number .ensures ∙ (no-word _ _ (b .if1 .taken))
 
 loop-holds : tie.Need-loop-holds Inv-loop μ-loop
 loop-holds c = counted-start _ _ (c .if1 .left)
@@ -38,17 +45,26 @@ shared-slice-read-wide c = omega arith
 wide-requires : tie.Need-wide-requires Inv-loop μ-loop
 wide-requires c κs = search needs
 
+no-number-requires-2 : tie.Need-no-number-requires-2 Inv-loop μ-loop
+no-number-requires-2 c κs = search needs
+
 returns-2 : tie.Need-returns-2 Inv-loop μ-loop
 returns-2 c =
-    let c4 = c .before .before .before .before in
-    counted-below (c4 .loop .inv) (c .before .before .before .loop-test .taken) _ (c .before .wide .ensures .0) (c .if2 .taken)
+    let b = c .before in
+    let c4 = b .before .before .before .before in
+    c .no-number2 .ensures ∙ (counted-below (c4 .loop .inv) (b .before .before .before .loop-test .taken) _ (b .before .wide .ensures .0) (b .if2 .taken))
+
+no-number-requires-3 : tie.Need-no-number-requires-3 Inv-loop μ-loop
+no-number-requires-3 c κs = search needs
 
 returns-3 : tie.Need-returns-3 Inv-loop μ-loop
 returns-3 c =
-    let c4 = c .before .before .before .before in
+    let b = c .before in
+    let c4 = b .before .before .before .before in
     let c5 = c4 .before in
-    counted-above (c5 .loop .inv) (c4 .loop-test .taken) _ (c .before .before .wide .ensures .0) (c .before .if2 .left)
-    (c .if3 .taken)
+    c .no-number3 .ensures
+    ∙ counted-above (c5 .loop .inv) (c4 .loop-test .taken) _ (b .before .before .wide .ensures .0) (b .before .if2 .left)
+    (b .if3 .taken)
 
 mul-value : tie.Need-mul-value Inv-loop μ-loop
 mul-value c = omega (arith, c .before .before .before .before .before .loop .inv .low)
@@ -56,11 +72,15 @@ mul-value c = omega (arith, c .before .before .before .before .before .loop .inv
 add-value : tie.Need-add-value Inv-loop μ-loop
 add-value c = omega (arith, c .before .before .before .before .before .loop .inv .low)
 
+no-number-requires-4 : tie.Need-no-number-requires-4 Inv-loop μ-loop
+no-number-requires-4 c κs = search needs
+
 returns-4 : tie.Need-returns-4 Inv-loop μ-loop
 returns-4 c =
-    let c5 = c .before .before .before .before .before in
+    let b = c .before in
+    let c5 = b .before .before .before .before .before in
     let c6 = c5 .before in
-    counted-large (c6 .loop .inv) (c5 .loop-test .taken) _ (c .before .before .before .wide .ensures .0) (c .if4 .taken)
+    c .no-number4 .ensures ∙ (counted-large (c6 .loop .inv) (c5 .loop-test .taken) _ (b .before .before .before .wide .ensures .0) (b .if4 .taken))
 
 add-i : tie.Need-add-i Inv-loop μ-loop
 add-i c = omega arith
@@ -87,14 +107,18 @@ decimal-in-spec =
     (tie.spec
     Inv-loop
     μ-loop
+    no-number-requires
     returns
     loop-holds
     shared-slice-read-wide
     wide-requires
+    no-number-requires-2
     returns-2
+    no-number-requires-3
     returns-3
     mul-value
     add-value
+    no-number-requires-4
     returns-4
     add-i
     loop-less
