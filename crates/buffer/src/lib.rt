@@ -37,7 +37,8 @@ fn times_prime(x: u64) -> u64
     std::num::wrapping_add_u64(std::num::wrapping_add_u64(low, high), shifted)
 }
 
-fn wide(b: u8) -> u64
+// A byte as a number of 64 bits.
+pub fn wide(b: u8) -> u64
     ensures { λ r. ⌜ r ≡ b ⌝ }
 {
     b as u64

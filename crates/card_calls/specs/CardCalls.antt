@@ -22,7 +22,7 @@ use Rattle.card.specs.Card.{
   chooseRefusal,
   chooseNext,
 }
-use Rattle.text.specs.Pieces.{Filled, bytesPieces}
+use Rattle.text.specs.Pieces.{Filled, putAll, bytesPieces}
 use Rattle.wording.specs.Wording.{doneLine, resultLine}
 use Rattle.card_calls.specs.declared.Called.{Called}
 
@@ -59,6 +59,16 @@ openedLine s = resultLine (s .refusal) 116 (s .trans .0)
 
 abbrev pub sealedLine : Sealed → List (List ℕ)
 sealedLine s = resultLine (s .refusal) 102 (s .number .0)
+
+-- The card and the index after such a call whose answer is put into a buffer, and the buffer then.
+abbrev pub steppedCall : Stepped → Filled → Called
+steppedCall s b = called (s .card) (putAll b (steppedLine s))
+
+abbrev pub openedCall : TransOpened → Filled → Called
+openedCall s b = called (s .card) (putAll b (openedLine s))
+
+abbrev pub sealedCall : Sealed → Filled → Called
+sealedCall s b = called (s .card) (putAll b (sealedLine s))
 
 -- `slot `, where the part stands by the number in its header, and its bytes
 unfoldable pub slotLine : ℕ → List ℕ → List (List ℕ)

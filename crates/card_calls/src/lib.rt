@@ -5,11 +5,12 @@ use card::Card;
 use seq::FrameNo;
 use seq::TransNo;
 ghost use mathlib.Core.Path.{_≡_};
-ghost use lib.ListN.{length, replicate};
-ghost use Rattle.card.specs.Card.{openCard, openTransaction, addMessage, sealFrame, readAcks};
+ghost use Rattle.card.specs.Card.{sealFrame, readAcks};
 ghost use Rattle.text.specs.Pieces.{from, putAll};
 ghost use Rattle.card_calls.specs.CardCalls.{
-  called,
+  steppedCall,
+  openedCall,
+  sealedCall,
   lentSlots,
   cardCall,
   openCall,
@@ -32,7 +33,7 @@ pub struct Called {
 
 // `card`, over a slot buffer whose bytes are all a5 first.
 pub fn call_card(numbers: [u32; 5], slots: &mut [u8], out: &mut [u8], at: usize) -> Called
-    ensures { λ r. ⌜ r ≡ called (cardCall numbers (now (slots .entry)) .card) (putAll (from (now (out .entry)) at) (steppedLine (cardCall numbers (now (slots .entry))))) ⌝ }
+    ensures { λ r. ⌜ r ≡ steppedCall (cardCall numbers (now (slots .entry))) (from (now (out .entry)) at) ⌝ }
     ensures { λ _. ⌜ now (slots .exit) ≡ lentSlots (now (slots .entry)) ⌝ }
     ensures { λ _. ⌜ now (out .exit) ≡ putAll (from (now (out .entry)) at) (steppedLine (cardCall numbers (now (slots .entry)))) .out ⌝ }
 {
@@ -47,7 +48,7 @@ pub fn call_card(numbers: [u32; 5], slots: &mut [u8], out: &mut [u8], at: usize)
 
 // `open`
 pub fn call_open(card: Card, numbers: [u32; 5], out: &mut [u8], at: usize) -> Called
-    ensures { λ r. ⌜ r ≡ called (openCall card numbers .card) (putAll (from (now (out .entry)) at) (openedLine (openCall card numbers))) ⌝ }
+    ensures { λ r. ⌜ r ≡ openedCall (openCall card numbers) (from (now (out .entry)) at) ⌝ }
     ensures { λ _. ⌜ now (out .exit) ≡ putAll (from (now (out .entry)) at) (openedLine (openCall card numbers)) .out ⌝ }
 {
     let count = (numbers[0] % 65536) as u16;
@@ -67,7 +68,7 @@ pub fn call_add(
     out: &mut [u8],
     at: usize,
 ) -> Called
-    ensures { λ r. ⌜ r ≡ called (addCall card numbers (now (payload .entry)) (now (slots .entry)) .step .card) (putAll (from (now (out .entry)) at) (steppedLine (addCall card numbers (now (payload .entry)) (now (slots .entry)) .step))) ⌝ }
+    ensures { λ r. ⌜ r ≡ steppedCall (addCall card numbers (now (payload .entry)) (now (slots .entry)) .step) (from (now (out .entry)) at) ⌝ }
     ensures { λ _. ⌜ now (slots .exit) ≡ addCall card numbers (now (payload .entry)) (now (slots .entry)) .slots ⌝ }
     ensures { λ _. ⌜ now (out .exit) ≡ putAll (from (now (out .entry)) at) (steppedLine (addCall card numbers (now (payload .entry)) (now (slots .entry)) .step)) .out ⌝ }
 {
@@ -79,7 +80,7 @@ pub fn call_add(
 
 // `seal`
 pub fn call_seal(card: Card, slots: &[u8], out: &mut [u8], at: usize) -> Called
-    ensures { λ r. ⌜ r ≡ called (sealFrame card (now (slots .entry)) .card) (putAll (from (now (out .entry)) at) (sealedLine (sealFrame card (now (slots .entry))))) ⌝ }
+    ensures { λ r. ⌜ r ≡ sealedCall (sealFrame card (now (slots .entry))) (from (now (out .entry)) at) ⌝ }
     ensures { λ _. ⌜ now (out .exit) ≡ putAll (from (now (out .entry)) at) (sealedLine (sealFrame card (now (slots .entry)))) .out ⌝ }
 {
     let step = assembly::seal_frame(card, slots);
@@ -91,7 +92,7 @@ pub fn call_seal(card: Card, slots: &[u8], out: &mut [u8], at: usize) -> Called
 
 // `read`
 pub fn call_read(card: Card, frame: &[u8], out: &mut [u8], at: usize) -> Called
-    ensures { λ r. ⌜ r ≡ called (readAcks card (now (frame .entry)) .card) (putAll (from (now (out .entry)) at) (steppedLine (readAcks card (now (frame .entry))))) ⌝ }
+    ensures { λ r. ⌜ r ≡ steppedCall (readAcks card (now (frame .entry))) (from (now (out .entry)) at) ⌝ }
     ensures { λ _. ⌜ now (out .exit) ≡ putAll (from (now (out .entry)) at) (steppedLine (readAcks card (now (frame .entry)))) .out ⌝ }
 {
     let step = acknowledgements::read_acknowledgements(card, frame);

@@ -59,12 +59,16 @@ takenOf len half odd bad at ended = record {
   ended = ended;
 }
 
--- What taking in the characters from an index on gives: the state after those before the newline, the index behind the
--- last one taken, the newline included, and whether that was a newline. No characters leave all as it was.
+-- The index behind the last character taken, the newline included, where taking them in began at an index.
+abbrev pub behind : ℕ → List ℕ → ℕ
+behind from cs = from + length (upToNewline cs) + cond (hasNewline cs) 1 0
+
+-- What taking in the characters from an index on gives: the state after those before the newline, the index behind them, and
+-- whether there was a newline. No characters leave all as it was.
 unfoldable pub takenFrom : Line → List ℕ → ℕ → List ℕ → Taken
 takenFrom line frame from cs = record {
   line = after (record { line = line; frame = frame }) (upToNewline cs) .line;
-  at = from + length (upToNewline cs) + cond (hasNewline cs) 1 0;
+  at = behind from cs;
   ended = hasNewline cs;
 }
 

@@ -1,21 +1,22 @@
 -- What a line's numbers mean to the host's calls, and the line that answers each call, in pieces. Characters are ASCII numbers; the
 -- words stand beside them.
 use Prim.Native.Nat.{ℕ, _-_, _%_}
-use mathlib.Core.Bool.{cond}
+use mathlib.Core.Bool.{true, cond}
 use mathlib.Core.List.{List, [], _∷_, _++_}
 use lib.Dec.{leb}
 use lib.ListN.{getD}
 use Rattle.decimal.specs.Decimal.{decimal}
 use Rattle.refusal.specs.declared.Class.{Class}
 use Rattle.refusal.specs.declared.Class.the-variants.{Wire, Message, Caller, Card, Other}
-use Rattle.wire.specs.Reading.{destination, source, number, ackStart, ackCount, flags}
+use Rattle.wire.specs.Reading.{readFrame, destination, source, number, ackStart, ackCount, flags}
+use Rattle.layout.specs.Layout.{layoutOf}
 use Rattle.layout.specs.declared.Layout.{Layout}
 use Rattle.layout.specs.declared.Layout.the-variants.{Refused as LayoutRefused, Counts}
 use Rattle.host.specs.declared.Pair.{Pair}
 use Rattle.host.specs.declared.Opened.{Opened}
 use Rattle.host.specs.declared.Answer.{Answer}
 use Rattle.host.specs.declared.Answer.the-variants.{Accepted, Again, NoMessages, Refused}
-use Rattle.host.specs.Host.{openedOf, acknowledgementOf}
+use Rattle.host.specs.Host.{Received, openedOf, acknowledgementOf}
 use Rattle.answer_line.specs.AnswerLine.{lineText}
 use Rattle.report.specs.Report.{letterOf, numbersOf}
 use Rattle.text.specs.Pieces.{Filled, from, putAll, bytesPieces}
@@ -58,6 +59,12 @@ receivedText own peer answer out at =
     let b = putAll (from out at) (lineText (letterOf answer) (numbersOf answer) ∷ []) in
     cond (leb (b .at) at) b (putAll (from (b .out) (b .at - 1)) (morePieces own peer answer))
 
+abbrev pub receivedLine : Pair → Received → List ℕ → ℕ → Filled
+receivedLine p r out at = receivedText (p .own) (p .peer) (r .answer) out at
+
+abbrev pub receivedCall : Pair → Received → List ℕ → ℕ → Called
+receivedCall p r out at = called (r .pair) (receivedLine p r out at)
+
 -- ---- questions
 
 unfoldable pub stateLine : Pair → List (List ℕ)
@@ -68,6 +75,9 @@ unfoldable pub layoutLine : List ℕ → Layout → List (List ℕ)
 layoutLine f (LayoutRefused n) = numberLine 82 n
 layoutLine f (Counts messages bytes) =
     lineText 76 (destination f ∷ source f ∷ number f ∷ ackStart f ∷ ackCount f ∷ flags f ∷ messages ∷ bytes ∷ []) ∷ []
+
+abbrev pub frameLine : List ℕ → List (List ℕ)
+frameLine f = layoutLine f (layoutOf (readFrame true f))
 
 -- `wire`, `message`, `caller`, `card`, `none`
 unfoldable pub classLine : Class → List (List ℕ)

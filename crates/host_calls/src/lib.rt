@@ -7,11 +7,8 @@ use layout::Layout;
 use refusal::Class;
 use seq::FrameNo;
 ghost use mathlib.Core.Path.{_≡_};
-ghost use mathlib.Core.Bool.{true};
 ghost use lib.ListN.{length, replicate};
 ghost use Rattle.refusal.specs.Class.{classOf};
-ghost use Rattle.wire.specs.Reading.{readFrame};
-ghost use Rattle.layout.specs.Layout.{layoutOf};
 ghost use Rattle.host.specs.Host.{receiveOf};
 ghost use Rattle.text.specs.Pieces.{from, putAll};
 ghost use Rattle.host_calls.specs.HostCalls.{
@@ -21,8 +18,10 @@ ghost use Rattle.host_calls.specs.HostCalls.{
   ackPieces,
   morePieces,
   receivedText,
+  receivedLine,
+  receivedCall,
   stateLine,
-  layoutLine,
+  frameLine,
   classLine,
 };
 
@@ -98,9 +97,9 @@ pub fn call_receive(
     out: &mut [u8],
     at: usize,
 ) -> Called
-    ensures { λ r. ⌜ r ≡ called (receiveOf pair (now (frame .entry)) (now (memory .entry)) .pair) (receivedText (pair .own) (pair .peer) (receiveOf pair (now (frame .entry)) (now (memory .entry)) .answer) (now (out .entry)) at) ⌝ }
+    ensures { λ r. ⌜ r ≡ receivedCall pair (receiveOf pair (now (frame .entry)) (now (memory .entry))) (now (out .entry)) at ⌝ }
     ensures { λ _. ⌜ now (memory .exit) ≡ receiveOf pair (now (frame .entry)) (now (memory .entry)) .memory ⌝ }
-    ensures { λ _. ⌜ now (out .exit) ≡ receivedText (pair .own) (pair .peer) (receiveOf pair (now (frame .entry)) (now (memory .entry)) .answer) (now (out .entry)) at .out ⌝ }
+    ensures { λ _. ⌜ now (out .exit) ≡ receivedLine pair (receiveOf pair (now (frame .entry)) (now (memory .entry))) (now (out .entry)) at .out ⌝ }
 {
     let own = pair.own;
     let peer = pair.peer;
@@ -124,8 +123,8 @@ pub fn call_state(pair: Pair, out: &mut [u8], at: usize) -> usize
 
 // `layout`
 pub fn call_layout(frame: &[u8], out: &mut [u8], at: usize) -> usize
-    ensures { λ r. ⌜ r ≡ putAll (from (now (out .entry)) at) (layoutLine (now (frame .entry)) (layoutOf (readFrame true (now (frame .entry))))) .at ⌝ }
-    ensures { λ _. ⌜ now (out .exit) ≡ putAll (from (now (out .entry)) at) (layoutLine (now (frame .entry)) (layoutOf (readFrame true (now (frame .entry))))) .out ⌝ }
+    ensures { λ r. ⌜ r ≡ putAll (from (now (out .entry)) at) (frameLine (now (frame .entry))) .at ⌝ }
+    ensures { λ _. ⌜ now (out .exit) ≡ putAll (from (now (out .entry)) at) (frameLine (now (frame .entry))) .out ⌝ }
 {
     let layout = layout::layout_of(frame);
     match layout {

@@ -3,8 +3,9 @@ use Prim.Native.Nat.{ℕ, _+_}
 use mathlib.Core.Bool.{cond}
 use mathlib.Core.List.{List, [], _∷_}
 use lib.Dec.{eqb, ltb}
-use lib.ListN.{length, set}
+use lib.ListN.{set}
 use Rattle.hexline.specs.Line.{upToNewline, hasNewline}
+use Rattle.hexline.specs.Taking.{behind}
 use Rattle.words.specs.declared.Gathered.{Gathered}
 
 -- The characters so far: how many are kept, and the buffer that has them. A character past the buffer's end is counted and stored
@@ -23,11 +24,11 @@ keepAll k (c ∷ cs) =
 abbrev pub kept : ℕ → List ℕ → Kept
 kept len line = record { len = len; line = line }
 
--- What taking in the characters from an index on gives: those before the newline are kept; the index behind the last one taken, the
--- newline included; and whether that was a newline.
+-- What taking in the characters from an index on gives: those before the newline are kept; the index behind them, as in a line of
+-- hexadecimal; and whether there was a newline.
 unfoldable pub gatheredFrom : ℕ → List ℕ → ℕ → List ℕ → Gathered
 gatheredFrom len line from cs = record {
   len = keepAll (kept len line) (upToNewline cs) .len;
-  at = from + length (upToNewline cs) + cond (hasNewline cs) 1 0;
+  at = behind from cs;
   ended = hasNewline cs;
 }

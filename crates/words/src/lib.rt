@@ -4,7 +4,6 @@
 use hexline::Line;
 ghost use mathlib.Core.Path.{_≡_};
 ghost use mathlib.Core.Option.{none};
-ghost use Prim.Native.Nat.{_≤_};
 ghost use lib.ListN.{length, drop};
 ghost use Rattle.hexline.specs.Line.{upToNewline};
 ghost use Rattle.words.specs.Lines.{kept, keepAll, gatheredFrom};
@@ -101,12 +100,6 @@ pub fn is_same(a: &[u8], b: &[u8]) -> bool
     true
 }
 
-fn wide(b: u8) -> u64
-    ensures { λ r. ⌜ (r ≡ b) × (r ≤ 255) ⌝ }
-{
-    b as u64
-}
-
 fn no_number() -> Number
     ensures { λ r. ⌜ r ≡ noNumber ⌝ }
 {
@@ -126,7 +119,7 @@ pub fn decimal_in(word: &[u8], most: u32) -> Number
     let mut value: u64 = 0;
     let mut i = 0;
     while i < word.len() {
-        let c = wide(word[i]);
+        let c = buffer::wide(word[i]);
         if c < 48 {
             return no_number();
         }

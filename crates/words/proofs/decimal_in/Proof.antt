@@ -20,7 +20,7 @@ use Rattle.words.proofs.decimal_in.Tie as tie
 use Rattle.words.proofs.decimal_in.Reads as reads
 use Rattle.words.proofs.decimal_in.Lts as lts
 use Rattle.words.proofs.no_number.Reads as no-number-reads
-use Rattle.words.proofs.wide.Reads as wide-reads
+use Rattle.buffer.proofs.wide.Reads as wide-reads
 
 abbrev Inv-loop : tie.InvT-loop
 Inv-loop word most value₀ i₀ value i = Counted word most value i
@@ -52,7 +52,7 @@ returns-2 : tie.Need-returns-2 Inv-loop μ-loop
 returns-2 c =
     let b = c .before in
     let c4 = b .before .before .before .before in
-    c .no-number2 .ensures ∙ (counted-below (c4 .loop .inv) (b .before .before .before .loop-test .taken) _ (b .before .wide .ensures .0) (b .if2 .taken))
+    c .no-number2 .ensures ∙ (counted-below (c4 .loop .inv) (b .before .before .before .loop-test .taken) _ (b .before .wide .ensures) (b .if2 .taken))
 
 no-number-requires-3 : tie.Need-no-number-requires-3 Inv-loop μ-loop
 no-number-requires-3 c κs = search needs
@@ -63,7 +63,7 @@ returns-3 c =
     let c4 = b .before .before .before .before in
     let c5 = c4 .before in
     c .no-number3 .ensures
-    ∙ counted-above (c5 .loop .inv) (c4 .loop-test .taken) _ (b .before .before .wide .ensures .0) (b .before .if2 .left)
+    ∙ counted-above (c5 .loop .inv) (c4 .loop-test .taken) _ (b .before .before .wide .ensures) (b .before .if2 .left)
     (b .if3 .taken)
 
 mul-value : tie.Need-mul-value Inv-loop μ-loop
@@ -80,7 +80,7 @@ returns-4 c =
     let b = c .before in
     let c5 = b .before .before .before .before .before in
     let c6 = c5 .before in
-    c .no-number4 .ensures ∙ (counted-large (c6 .loop .inv) (c5 .loop-test .taken) _ (b .before .before .before .wide .ensures .0) (b .if4 .taken))
+    c .no-number4 .ensures ∙ (counted-large (c6 .loop .inv) (c5 .loop-test .taken) _ (b .before .before .before .wide .ensures) (b .if4 .taken))
 
 add-i : tie.Need-add-i Inv-loop μ-loop
 add-i c = omega arith
@@ -92,7 +92,7 @@ loop-again : tie.Need-loop-again Inv-loop μ-loop
 loop-again c =
     let c5 = c .before .before .before .before .before in
     let c6 = c5 .before in
-    counted-turn (c6 .loop .inv) (c5 .loop-test .taken) _ (c .before .before .before .wide .ensures .0)
+    counted-turn (c6 .loop .inv) (c5 .loop-test .taken) _ (c .before .before .before .wide .ensures)
     (c .before .before .if2 .left) (c .before .if3 .left) (c .if4 .left)
 
 cast-t14 : tie.Need-cast-t14 Inv-loop μ-loop
