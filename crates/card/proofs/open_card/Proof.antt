@@ -38,14 +38,16 @@ unfolding openCard
 returns c =
     let s = c .before .before in
     let a = s .before .before .before .args in
-    let r = refusal-is (a .own) (a .peer) (a .limit) (a .slots .now) _ _ (s .before .is-fitting .ensures) (s .first-refusal .ensures) in
+    let fitting = s .before .is-fitting .ensures in
+    let r = refusal-is (a .own) (a .peer) (a .limit) (a .slots .now) _ _ fitting (s .first-refusal .ensures) in
     rw (c .fresh-card .ensures, ← r, ne-eqb _ 0 (c .before .if1 .taken))
 
 cast-fresh-card : tie.Need-cast-fresh-card
 cast-fresh-card c =
     let s = c .before in
     let a = s .before .before .before .args in
-    let r = refusal-is (a .own) (a .peer) (a .limit) (a .slots .now) _ _ (s .before .is-fitting .ensures) (s .first-refusal .ensures) in
+    let fitting = s .before .is-fitting .ensures in
+    let r = refusal-is (a .own) (a .peer) (a .limit) (a .slots .now) _ _ fitting (s .first-refusal .ensures) in
     omega (arith, opened-limit (a .own) (a .peer) (a .limit) (a .slots .now) (sym r ∙ c .if1 .left))
 
 fresh-card-requires-2 : tie.Need-fresh-card-requires-2
@@ -56,7 +58,8 @@ unfolding openCard
 returns-2 c =
     let s = c .before .before in
     let a = s .before .before .before .args in
-    let r = refusal-is (a .own) (a .peer) (a .limit) (a .slots .now) _ _ (s .before .is-fitting .ensures) (s .first-refusal .ensures) in
+    let fitting = s .before .is-fitting .ensures in
+    let r = refusal-is (a .own) (a .peer) (a .limit) (a .slots .now) _ _ fitting (s .first-refusal .ensures) in
     rw (c .fresh-card2 .ensures, ← r, eq-eqb _ 0 (c .before .if1 .left))
 
 pub open-card-spec : {M : Type 1} → statement M
