@@ -1,9 +1,10 @@
 -- What a frame's number decides. Nothing of this needs to be believed: reception::receive promises receiveOf of
 -- host/specs/Host.antt.
 use Prim.Native.Nat.{ℕ}
-use mathlib.Core.Bool.{cond}
+use mathlib.Core.Bool.{Bool, false, cond, not}
 use mathlib.Core.List.{List, []}
 use lib.Dec.{eqb, leb, ltb}
+use Rattle.marks.specs.Marks.{mark}
 use Rattle.wire.specs.Reading.{addressed, readFrame, refusalOf}
 use Rattle.transactions.specs.Transactions.{Transactions}
 use Rattle.host.specs.declared.Answer.{Answer}
@@ -11,6 +12,10 @@ use Rattle.host.specs.declared.Answer.the-variants.{Again}
 use Rattle.host.specs.declared.Pair.{Pair}
 use Rattle.host.specs.declared.Stepped.{Stepped}
 use Rattle.host.specs.Host.{refused, accepting, unchanged, steppedOf}
+
+-- Whether a frame d past the next one is in the window and was not accepted yet.
+unfoldable pub isNew : ℕ → ℕ → Bool
+isNew marks d = cond (leb 64 d) false (not (mark marks d))
 
 -- The pair after a frame was accepted, by the transactions that it leaves.
 abbrev pub acceptedPair : Pair → ℕ → Transactions → Pair

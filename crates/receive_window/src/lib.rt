@@ -12,7 +12,20 @@ use transactions::Open;
 ghost use mathlib.Core.Path.{_≡_};
 ghost use Rattle.host.specs.declared.Answer.the-variants.{Again};
 ghost use Rattle.host.specs.Host.{refused};
-ghost use Rattle.receive_window.specs.Answers.{acceptedPair, stepped, refusedWith, numberAnswered};
+ghost use Rattle.receive_window.specs.Answers.{isNew, acceptedPair, stepped, refusedWith, numberAnswered};
+
+// Whether a frame d past the next one is in the window and was not accepted yet.
+pub fn is_new(marks: u64, d: u16) -> bool
+    ensures { λ r. ⌜ r ≡ isNew marks d ⌝ }
+{
+    if 64 <= d {
+        return false;
+    }
+    if word64::is_marked(marks, d as u32) {
+        return false;
+    }
+    true
+}
 
 // The pair after a frame was accepted, with the transactions that it leaves: its number is marked, and next moves past every
 // consecutive accepted number.

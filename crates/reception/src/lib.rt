@@ -6,7 +6,6 @@ use host::Answer;
 use host::Pair;
 use host::Stepped;
 use host::Sums;
-use marks::word64;
 use seq::FrameNo;
 ghost use mathlib.Core.Path.{_≡_};
 ghost use Rattle.host.specs.Host.{receiveOf, steppedOf};
@@ -84,10 +83,7 @@ pub fn receive(pair: Pair, f: &[u8], memory: &mut [u8]) -> Stepped
     let number = head.number;
     let next = pair.next;
     let d = number.distance(next);
-    if 64 <= d {
-        return receive_window::answer_by_number(pair, f, number, d);
-    }
-    if word64::is_marked(pair.marks, d as u32) {
+    if !receive_window::is_new(pair.marks, d) {
         return receive_window::answer_by_number(pair, f, number, d);
     }
     let lowest = pair.lowest;

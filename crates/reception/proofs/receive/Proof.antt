@@ -1,10 +1,11 @@
 -- `reception::receive`: the heading's refusals, then the flag, then where the number lies.
 -- Assumes nothing.
 use mathlib.Core.Path.{_≡_, sym, ap, _∙_}
-use mathlib.Core.Logic.{_≢_, inl, inr}
+use mathlib.Core.Logic.{_≢_}
 use mathlib.Core.List.{List}
 use Prim.Native.Nat.{ℕ}
 use native.Mathlib.Omega.{arith}
+use borrow.Author.Tests.{not-true, not-false}
 use Rattle.seq.specs.Ring.{distance, frameSpace}
 use Rattle.wire.specs.declared.FrameHeader.{FrameHeader}
 use Rattle.wire.specs.Reading.{addressed}
@@ -14,6 +15,7 @@ use Rattle.host.specs.declared.Pair.{Pair}
 use Rattle.host.specs.Host.{Received, steppedOf}
 use Rattle.reception.specs.Reception.{Awaited}
 use Rattle.host.proofs.Receiving.{received-bad, received-empty}
+use Rattle.receive_window.proofs.Window.{not-new, new-in}
 use Rattle.reception.proofs.Receiving.{answered-by-number}
 use borrow.Author.Needs.{needs}
 use Rattle.reception.proofs.receive.Statement.{statement}
@@ -25,7 +27,7 @@ use Rattle.closing.proofs.judge_closing.Reads as judge-closing-reads
 use Rattle.receive_window.proofs.refusing.Reads as refusing-reads
 use Rattle.reception.proofs.take_closing.Reads as take-closing-reads
 use Rattle.reception.proofs.take_in.Reads as take-in-reads
-use Rattle.marks.proofs.word64.is_marked.Reads as is-marked-reads
+use Rattle.receive_window.proofs.is_new.Reads as is-new-reads
 use Rattle.reader.proofs.frame_header.Reads as frame-header-reads
 use Rattle.heading.proofs.heading_refusal.Reads as heading-refusal-reads
 use Rattle.seq.proofs.FrameNo.distance.Reads as distance-reads
@@ -75,42 +77,24 @@ returns-2 c =
 distance-requires : tie.Need-distance-requires
 distance-requires c κs = search needs
 
+is-new-requires : tie.Need-is-new-requires
+is-new-requires c κs = search needs
+
 answer-by-number-requires : tie.Need-answer-by-number-requires
 answer-by-number-requires c κs = search needs
 
 returns-3 : tie.Need-returns-3
 returns-3 c =
     let near = c .before in
-    let flagged = near .before .before .before .before in
+    let flagged = near .before .before .before .before .before in
     let headed = flagged .before .before .before in
     let a = headed .before .before .before .before .args in
     let h = heading-stands _ (a .f .now) _ (headed .before .heading-refusal .ensures) (headed .if1 .left) in
     let w = awaited (a .pair) (a .f .now) h _ (flagged .before .before .frame-header .ensures) (flagged .if2 .left) _
-    (near .before .distance .ensures) in
-    let r = answered-by-number (a .pair) (a .f .now) (a .memory .now) _ _ w (inl (near .if3 .taken)) in
+    (near .before .before .distance .ensures) in
+    let old = not-new (a .pair .marks) _ (sym (near .before .is-new .ensures) ∙ not-true _ (near .if3 .taken)) in
+    let r = answered-by-number (a .pair) (a .f .now) (a .memory .now) _ _ w old in
     (c .answer-by-number .ensures ∙ r .0, r .1)
-
-cast-is-marked : tie.Need-cast-is-marked
-cast-is-marked c = search needs
-
-is-marked-requires : tie.Need-is-marked-requires
-is-marked-requires c κs = search needs
-
-answer-by-number-requires-2 : tie.Need-answer-by-number-requires-2
-answer-by-number-requires-2 c κs = search needs
-
-returns-4 : tie.Need-returns-4
-returns-4 c =
-    let marked = c .before in
-    let near = marked .before .before in
-    let flagged = near .before .before .before .before in
-    let headed = flagged .before .before .before in
-    let a = headed .before .before .before .before .args in
-    let h = heading-stands _ (a .f .now) _ (headed .before .heading-refusal .ensures) (headed .if1 .left) in
-    let w = awaited (a .pair) (a .f .now) h _ (flagged .before .before .frame-header .ensures) (flagged .if2 .left) _
-    (near .before .distance .ensures) in
-    let r = answered-by-number (a .pair) (a .f .now) (a .memory .now) _ _ w (inr (sym (marked .before .is-marked .ensures) ∙ marked .if4 .taken)) in
-    (c .answer-by-number2 .ensures ∙ r .0, r .1)
 
 judge-closing-requires : tie.Need-judge-closing-requires
 judge-closing-requires c κs = search needs
@@ -121,19 +105,19 @@ take-closing-requires c κs = search needs
 same-length : tie.Need-same-length
 same-length c = search needs
 
-returns-5 : tie.Need-returns-5
-returns-5 c =
+returns-4 : tie.Need-returns-4
+returns-4 c =
     let closing = c .before .before .before .before in
-    let marked = closing .before .before .before .before .before in
-    let near = marked .before .before in
-    let flagged = near .before .before .before .before in
+    let near = closing .before .before .before .before .before in
+    let flagged = near .before .before .before .before .before in
     let headed = flagged .before .before .before in
     let a = headed .before .before .before .before .args in
     let h = heading-stands _ (a .f .now) _ (headed .before .heading-refusal .ensures) (headed .if1 .left) in
     let w = awaited (a .pair) (a .f .now) h _ (flagged .before .before .frame-header .ensures) (flagged .if2 .left) _
-    (near .before .distance .ensures) in
-    c .before .before .take-closing .ensures (closing .before .before .judge-closing .ensures) (closing .if5 .taken) _ w
-    (omega (arith, near .if3 .left)) (sym (marked .before .is-marked .ensures) ∙ marked .if4 .left)
+    (near .before .before .distance .ensures) in
+    let new = new-in (a .pair .marks) _ (sym (near .before .is-new .ensures) ∙ not-false _ (near .if3 .left)) in
+    c .before .before .take-closing .ensures (closing .before .before .judge-closing .ensures) (closing .if4 .taken) _ w
+    (new .0) (new .1)
 
 take-in-requires : tie.Need-take-in-requires
 take-in-requires c κs = search needs
@@ -141,18 +125,17 @@ take-in-requires c κs = search needs
 same-length-2 : tie.Need-same-length-2
 same-length-2 c = search needs
 
-returns-6 : tie.Need-returns-6
-returns-6 c =
-    let marked = c .before .before .before .before .before .before .before .before .before in
-    let near = marked .before .before in
-    let flagged = near .before .before .before .before in
+returns-5 : tie.Need-returns-5
+returns-5 c =
+    let near = c .before .before .before .before .before .before .before .before .before in
+    let flagged = near .before .before .before .before .before in
     let headed = flagged .before .before .before in
     let a = headed .before .before .before .before .args in
     let h = heading-stands _ (a .f .now) _ (headed .before .heading-refusal .ensures) (headed .if1 .left) in
     let w = awaited (a .pair) (a .f .now) h _ (flagged .before .before .frame-header .ensures) (flagged .if2 .left) _
-    (near .before .distance .ensures) in
-    c .before .before .take-in .ensures _ w (omega (arith, near .if3 .left))
-    (sym (marked .before .is-marked .ensures) ∙ marked .if4 .left)
+    (near .before .before .distance .ensures) in
+    let new = new-in (a .pair .marks) _ (sym (near .before .is-new .ensures) ∙ not-false _ (near .if3 .left)) in
+    c .before .before .take-in .ensures _ w (new .0) (new .1)
 
 pub receive-spec : {M : Type 1} → statement M
 receive-spec =
@@ -164,16 +147,13 @@ receive-spec =
     frame-header-requires
     returns-2
     distance-requires
+    is-new-requires
     answer-by-number-requires
     returns-3
-    cast-is-marked
-    is-marked-requires
-    answer-by-number-requires-2
-    returns-4
     judge-closing-requires
     take-closing-requires
     same-length
-    returns-5
+    returns-4
     take-in-requires
     same-length-2
-    returns-6)
+    returns-5)
