@@ -1,6 +1,6 @@
-// What a frame's number decides at the host: the window after a frame was accepted, and the answers to frames that are behind,
-// ahead, accepted already or refused. Assumes nothing of the pair, which may be one that no run reaches. It promises what
-// specs/Answers.antt says.
+// What a frame's number decides at the host: whether the frame is new, the window after it was accepted, and the answers to frames
+// that are behind, ahead, accepted already or refused. Assumes nothing of the pair, which may be one that no run reaches. It
+// promises what specs/Answers.antt says.
 use host::Answer;
 use host::Pair;
 use host::Refusal;
