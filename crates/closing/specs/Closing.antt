@@ -1,4 +1,4 @@
--- The first pass over frames that leave the table of open transactions as it is: what judging their messages one after another finds.
+-- The first pass over frames that leave the table of open transactions as it is: what judging their messages in turn finds.
 -- Nothing of this needs to be believed: reception/proofs/Closings.antt shows that it comes to what judging any frame finds.
 use Prim.Native.Nat.{ℕ, zero, suc, _+_, _%_}
 use mathlib.Core.Bool.{Bool, cond, _&&_}

@@ -53,7 +53,7 @@ const NONE: Closing = Closing {
     closed: 0,
 };
 
-// Judges a frame's messages as judging::judge_all does, for a memory of size bytes, up to the first that is refused or leaves a trace.
+// Judges a frame's messages as judging::judge_all does, up to the first that is refused or leaves a trace.
 pub fn judge_closing(low: TransNo, shut: u32, table: [Open; 32], f: &[u8], size: usize) -> Closing
     ensures { λ r. ⌜ r ≡ closingOf (now (f .entry)) (record { lowest = low .0; closed = shut; table = table }) size ⌝ }
 {

@@ -13,7 +13,8 @@ ghost use Rattle.transactions.specs.Transactions.{
   verdictOf,
 };
 
-// An open transaction: what its first message said of it, and how many were received. The wide fields come first: without padding the table is copied as one block.
+// An open transaction: what its first message said of it, and how many were received. The wide fields come first: without padding
+// the table is copied as one block.
 pub struct Open {
     pub target: u32,
     pub value: u32,

@@ -79,7 +79,8 @@ returns-3 : tie.Need-returns-3 Inv-loop μ-loop
 returns-3 c =
     let here = c .before .before .before .before in
     let w = is-whole (sym (here .before .before .before .before .message-at .ensures) ∙ here .before .before .found .given .1) in
-    finding-stops (here .before .before .before .before .before .loop .inv .1) w (c .before .before .judge .ensures) (c .before .leaves-no-trace .ensures)
+    finding-stops (here .before .before .before .before .before .loop .inv .1) w (c .before .before .judge .ensures)
+    (c .before .leaves-no-trace .ensures)
     (not-true _ (c .if2 .taken))
 
 add-messages : tie.Need-add-messages Inv-loop μ-loop
@@ -98,7 +99,8 @@ returns-4 : tie.Need-returns-4 Inv-loop μ-loop
 returns-4 c =
     let here = c .before .before .before .before .before in
     let w = is-whole (sym (here .before .before .before .before .message-at .ensures) ∙ here .before .before .found .given .1) in
-    finding-ends (here .before .before .before .before .before .loop .inv .1) w (c .before .before .before .judge .ensures) (c .before .before .leaves-no-trace .ensures)
+    finding-ends (here .before .before .before .before .before .loop .inv .1) w (c .before .before .before .judge .ensures)
+    (c .before .before .leaves-no-trace .ensures)
     (not-false _ (c .before .if2 .left)) (not-true _ (c .if3 .taken))
 
 loop-less : tie.Need-loop-less Inv-loop μ-loop

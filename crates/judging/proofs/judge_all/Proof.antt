@@ -101,31 +101,37 @@ returns-3 c =
     let here = c .before .before .before .before .before in
     let w = is-whole (sym (here .before .before .before .before .message-at .ensures) ∙ here .before .before .found .given .1) in
     c .refused-at3 .ensures
-    ∙ judging-stops (here .before .before .before .before .before .loop .inv .1) w (c .before .before .before .judge .ensures) (c .before .if2 .taken)
+    ∙ judging-stops (here .before .before .before .before .before .loop .inv .1) w (c .before .before .before .judge .ensures)
+    (c .before .if2 .taken)
 
 mul-table : tie.Need-mul-table Inv-loop μ-loop
 mul-table c = omega arith
 
 array-set-from-table : tie.Need-array-set-from-table Inv-loop μ-loop
-array-set-from-table c = omega (arith, c .before .before .before .before .before .before .before .before .before .before .before .loop .inv .0)
+array-set-from-table c =
+    omega (arith, c .before .before .before .before .before .before .before .before .before .before .before .loop .inv .0)
 
 cast-w : tie.Need-cast-w Inv-loop μ-loop
 cast-w c = omega arith
 
 mul-noted : tie.Need-mul-noted Inv-loop μ-loop
-mul-noted c = omega (arith, c .before .before .before .before .before .before .before .before .before .before .before .before .loop .inv .0)
+mul-noted c =
+    omega (arith, c .before .before .before .before .before .before .before .before .before .before .before .before .loop .inv .0)
 
 array-read-noted : tie.Need-array-read-noted Inv-loop μ-loop
-array-read-noted c = omega (arith, c .before .before .before .before .before .before .before .before .before .before .before .before .loop .inv .0)
+array-read-noted c =
+    omega (arith, c .before .before .before .before .before .before .before .before .before .before .before .before .loop .inv .0)
 
 noted-requires : tie.Need-noted-requires Inv-loop μ-loop
 noted-requires c κs = search needs
 
 mul-due : tie.Need-mul-due Inv-loop μ-loop
-mul-due c = omega (arith, c .before .before .before .before .before .before .before .before .before .before .before .before .before .before .loop .inv .0)
+mul-due c =
+    omega (arith, c .before .before .before .before .before .before .before .before .before .before .before .before .before .before .loop .inv .0)
 
 array-write-due : tie.Need-array-write-due Inv-loop μ-loop
-array-write-due c = omega (arith, c .before .before .before .before .before .before .before .before .before .before .before .before .before .before .loop .inv .0)
+array-write-due c =
+    omega (arith, c .before .before .before .before .before .before .before .before .before .before .before .before .before .before .loop .inv .0)
 
 counted-requires : tie.Need-counted-requires Inv-loop μ-loop
 counted-requires c κs =
@@ -141,7 +147,9 @@ returns-4 c =
     let w = is-whole (sym (here .before .before .before .before .message-at .ensures) ∙ here .before .before .found .given .1) in
     c .passed .ensures
     ∙ rw (c .before .before .counted .ensures)
-    (judging-ends (here .before .before .before .before .before .loop .inv .1) w (c .before .before .before .before .before .before .before .before .before .before .judge .ensures) (c .before .before .before .before .before .before .before .before .if2 .left)
+    (judging-ends (here .before .before .before .before .before .loop .inv .1) w
+    (c .before .before .before .before .before .before .before .before .before .before .judge .ensures)
+    (c .before .before .before .before .before .before .before .before .if2 .left)
     (c .before .before .before .noted .ensures) (not-true _ (c .before .if3 .taken)))
 
 loop-less : tie.Need-loop-less Inv-loop μ-loop
@@ -157,7 +165,8 @@ loop-again c =
     let k = here .before .before .before .before .before .loop in
     rw (c .before .counted .ensures) (
       steady-set (k .inv .0) w _ _ _ (c .before .before .before .before .before .before .before .before .before .judge .result .done),
-      judging-on (k .inv .1) w (c .before .before .before .before .before .before .before .before .before .judge .ensures) (c .before .before .before .before .before .before .before .if2 .left) (c .before .before .noted .ensures)
+      judging-on (k .inv .1) w (c .before .before .before .before .before .before .before .before .before .judge .ensures)
+          (c .before .before .before .before .before .before .before .if2 .left) (c .before .before .noted .ensures)
           (not-false _ (c .if3 .left)),
     )
 

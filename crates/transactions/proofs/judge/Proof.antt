@@ -53,10 +53,11 @@ add-received c = search needs
 returns-3 : tie.Need-returns-3
 unfolding holding
 returns-3 c =
-    let a = c .before .before .before .before .before .before .before .before .args in
+    let passed = c .before .before .before .before in
+    let a = passed .before .before .before .before .args in
     rw (add-one (a .o .received))
     (is-holding (a .lowest .0) (a .closed) (a .o) (a .h) (a .len) (a .size) _ _
-    (c .before .before .before .before .before .before .distance .ensures) (c .before .before .before .before .before .first-refusal .ensures) (c .before .before .before .before .if1 .left) (omega arith))
+    (passed .before .before .distance .ensures) (passed .before .first-refusal .ensures) (passed .if1 .left) (omega arith))
 
 pub judge-spec : {M : Type 1} → statement M
 judge-spec =
