@@ -481,39 +481,46 @@ def draw_lives():
 
 # Floors: what is written beside them, their colour, and their rectangle: left, right, lowest row, highest row.
 FLOORS = {
-    "kit": ("libraries of the Rattle kit", "#ffffff", 560, 1140, 0, 0),
-    "ground": ("ground: no knowledge of frames", GREY, 30, 720, 1, 1),
-    "format": ("format: defined once, in wire", BLUE, 200, 600, 2, 4),
-    "card": ("card", GREEN, 30, 362, 5, 7),
-    "host": ("host", AMBER, 404, 596, 5, 8),
-    "C": ("C: numbers, byte slices", TEAL, 642, 766, 5, 5),
-    "theorem": ("theorem", VIOLET, 30, 290, 9, 9),
-    "tests": ("tests", GREY, 334, 596, 9, 9),
-    "lines": ("lines: characters and text", ROSE, 812, 1140, 2, 9),
-    "programs": ("programs: input and output", TEAL, 812, 1140, 10, 10),
+    "kit": ("libraries of the Rattle kit", "#ffffff", 700, 1350, 0, 0),
+    "ground": ("ground: no knowledge of frames", GREY, 30, 860, 1, 1),
+    "format": ("format: defined once, in wire", BLUE, 300, 860, 2, 5),
+    "card": ("card", GREEN, 30, 500, 6, 9),
+    "host": ("host", AMBER, 552, 812, 6, 10),
+    "C": ("C: numbers, byte slices", TEAL, 846, 970, 6, 6),
+    "theorem": ("theorem", VIOLET, 30, 230, 11, 11),
+    "tests": ("tests", GREY, 300, 760, 11, 11),
+    "lines": ("lines: characters and text", ROSE, 1010, 1350, 2, 12),
+    "programs": ("programs: input and output", TEAL, 1010, 1350, 13, 13),
 }
 
 # Where a crate is drawn: its floor, its row from below, and the middle of its box.
 PLACES = {
-    "bytes": ("kit", 0, 640), "io": ("kit", 0, 860), "libc": ("kit", 0, 960), "os": ("kit", 0, 1060),
-    "marks": ("ground", 1, 110), "seq": ("ground", 1, 270), "refusal": ("ground", 1, 460), "octets": ("ground", 1, 640),
-    "wire": ("format", 2, 380), "writer": ("format", 3, 290), "reader": ("format", 3, 470), "layout": ("format", 4, 520),
-    "send_window": ("card", 5, 110), "sendings": ("card", 5, 270), "card": ("card", 6, 130), "finishing": ("card", 6, 280),
-    "assembly": ("card", 7, 100), "retransmission": ("card", 7, 270),
-    "transactions": ("host", 5, 490), "host": ("host", 6, 450), "judging": ("host", 6, 548),
-    "depositing": ("host", 7, 470), "reception": ("host", 8, 500),
-    "capi": ("C", 5, 704),
-    "delivery": ("theorem", 9, 165),
-    "edges": ("tests", 9, 400), "host_run": ("tests", 9, 520),
-    "hexline": ("lines", 2, 870), "decimal": ("lines", 2, 975), "buffer": ("lines", 2, 1080),
-    "hexfeed": ("lines", 3, 860), "answer_line": ("lines", 3, 975), "text": ("lines", 3, 1080),
-    "words": ("lines", 4, 860), "kinds": ("lines", 5, 860), "script": ("lines", 6, 860),
-    "report": ("lines", 9, 880), "pair_text": ("lines", 9, 1050),
-    "replay": ("programs", 10, 880), "calls": ("programs", 10, 1050),
+    "bytes": ("kit", 0, 760), "io": ("kit", 0, 1070), "libc": ("kit", 0, 1180), "os": ("kit", 0, 1290),
+    "marks": ("ground", 1, 120), "seq": ("ground", 1, 360), "refusal": ("ground", 1, 560), "octets": ("ground", 1, 780),
+    "wire": ("format", 2, 580), "headers": ("format", 3, 420), "reader": ("format", 3, 680),
+    "writer": ("format", 4, 400), "heading": ("format", 4, 720), "layout": ("format", 5, 780),
+    "send_window": ("card", 6, 120), "sendings": ("card", 6, 310),
+    "releasing": ("card", 7, 90), "card": ("card", 7, 230), "finishing": ("card", 7, 360),
+    "acknowledgements": ("card", 8, 120), "retransmission": ("card", 8, 300), "admission": ("card", 8, 440),
+    "reachable_card": ("card", 9, 220), "assembly": ("card", 9, 430),
+    "transactions": ("host", 6, 660), "host": ("host", 7, 610), "judging": ("host", 7, 740),
+    "depositing": ("host", 8, 620), "closing": ("host", 8, 750),
+    "receive_window": ("host", 9, 650), "reception": ("host", 10, 690),
+    "capi": ("C", 6, 908),
+    "delivery": ("theorem", 11, 130),
+    "edges": ("tests", 11, 380), "host_run": ("tests", 11, 690),
+    "hexline": ("lines", 2, 1070), "decimal": ("lines", 2, 1180), "buffer": ("lines", 2, 1290),
+    "hexfeed": ("lines", 3, 1060), "answer_line": ("lines", 3, 1180), "text": ("lines", 3, 1290),
+    "words": ("lines", 4, 1060), "wording": ("lines", 4, 1240),
+    "kinds": ("lines", 5, 1060), "script": ("lines", 6, 1060),
+    "pair_text": ("lines", 8, 1240),
+    "report": ("lines", 11, 1070), "card_calls": ("lines", 11, 1240), "host_calls": ("lines", 12, 1240),
+    "replay": ("programs", 13, 1070), "calls": ("programs", 13, 1240),
 }
 
 TOP, PITCH, BOX = 60, 86, 32
-ROWS = 11
+ROWS = 14
+WIDTH = 1380
 
 
 def read_crates():
@@ -571,7 +578,7 @@ def lanes_of(row, names):
         if start > left:
             free.append((left, start))
         left = end
-    return free + [(left, 1162)]
+    return free + [(left, WIDTH - 8)]
 
 
 def way_through(row, ideal, names, taken):
@@ -623,7 +630,7 @@ INKS = {
 
 
 def draw_crates(sees):
-    p = Picture("crates.svg", 1170, 998, "The crates by floors, and what each may see")
+    p = Picture("crates.svg", WIDTH, TOP + ROWS * PITCH - 8, "The crates by floors, and what each may see")
     names = sorted(set(sees) | {b for seen in sees.values() for b in seen})
     refuse_crowding(names)
     p.text(30, 28, "An arrow goes from a crate to one that it may see. Where another crate that it sees leads there, "
