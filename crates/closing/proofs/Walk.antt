@@ -15,9 +15,10 @@ use Rattle.wire.specs.Reading.{follows, dataEnd, messageAt}
 use Rattle.reader.specs.declared.Found.the-variants.{PastEnd}
 use Rattle.reader.specs.Finding.{foundAt}
 use Rattle.reader.proofs.Finding.{IsWhole, is-past}
-use Rattle.transactions.specs.declared.Open.{Open}
+use Rattle.terms.specs.declared.Open.{Open}
+use Rattle.terms.specs.Terms.{free}
 use Rattle.transactions.specs.declared.Verdict.{Verdict}
-use Rattle.transactions.specs.Transactions.{free, Transactions, verdictOf, verdict}
+use Rattle.transactions.specs.Transactions.{Transactions, verdictOf, verdict}
 use Rattle.judging.proofs.Judging.{place-is, verdict-is, turn-left}
 use Rattle.closing.specs.declared.Closing.{Closing}
 use Rattle.closing.specs.Closing.{sameOpen, closes, noneClosing, closingOn, closingFrom, closingOf}

@@ -2,7 +2,7 @@
 // at less cost than judging any frame. Assumes nothing: any bytes and any table get an answer. It promises specs/Closing.antt.
 use reader::Found;
 use seq::TransNo;
-use transactions::Open;
+use terms::Open;
 use transactions::Verdict;
 ghost use mathlib.Core.Path.{_≡_};
 ghost use Rattle.closing.specs.Closing.{sameOpen, closes, closingOf};

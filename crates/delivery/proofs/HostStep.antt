@@ -28,20 +28,9 @@ use Rattle.marks.proofs.Marks.{
 }
 use Rattle.wire.specs.Format.{Message, headOf, needed}
 use Rattle.wire.proofs.Format.{needed-pos}
-use Rattle.transactions.specs.declared.Open.{Open}
-use Rattle.transactions.specs.Transactions.{
-  free,
-  agrees,
-  termsRefusal,
-  addressRefusal,
-  fills,
-  closing,
-  holding,
-  verdictOf,
-  Transactions,
-  verdict,
-  after,
-}
+use Rattle.terms.specs.declared.Open.{Open}
+use Rattle.terms.specs.Terms.{free, agrees, termsRefusal, addressRefusal}
+use Rattle.transactions.specs.Transactions.{fills, closing, holding, verdictOf, Transactions, verdict, after}
 use Rattle.delivery.specs.Book.{MessageRecord, Transaction, noTransaction, allMessagesIn}
 use Rattle.delivery.proofs.Counts.{count}
 

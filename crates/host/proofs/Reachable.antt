@@ -27,17 +27,10 @@ use Rattle.wire.specs.Format.{Message, headOf}
 use Rattle.wire.specs.Reading.{number, flags, refusalOf}
 use Rattle.wire.proofs.Reading.{readable}
 use Rattle.wire.proofs.RoundTrip.{Fits, AllFit, messages-fit}
-use Rattle.transactions.specs.declared.Open.{Open}
+use Rattle.terms.specs.declared.Open.{Open}
+use Rattle.terms.specs.Terms.{free}
 use Rattle.transactions.specs.declared.Verdict.{Verdict}
-use Rattle.transactions.specs.Transactions.{
-  free,
-  fills,
-  closing,
-  holding,
-  Transactions,
-  verdict,
-  after,
-}
+use Rattle.transactions.specs.Transactions.{fills, closing, holding, Transactions, verdict, after}
 use Rattle.transactions.proofs.Judging.{in-window, closes, holds, fills-left}
 use Rattle.host.specs.declared.Pair.{Pair}
 use Rattle.host.specs.Host.{

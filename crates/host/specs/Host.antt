@@ -10,8 +10,9 @@ use Rattle.octets.specs.Octets.{little, written}
 use Rattle.wire.specs.Format.{Message}
 use Rattle.wire.specs.Reading.{number, flags, addressed, Read, bad, good, readFrame}
 use Rattle.wire.specs.Writing.{ackFrame}
+use Rattle.terms.specs.Terms.{free}
 use Rattle.transactions.specs.declared.Verdict.{Verdict}
-use Rattle.transactions.specs.Transactions.{free, Transactions, verdict, after}
+use Rattle.transactions.specs.Transactions.{Transactions, verdict, after}
 use Rattle.host.specs.declared.Pair.{Pair}
 use Rattle.host.specs.declared.Refusal.{Refusal}
 use Rattle.host.specs.declared.Sums.{Sums}

@@ -3,7 +3,7 @@
 // specs/Reachable.antt is kept by all of it.
 use seq::FrameNo;
 use seq::TransNo;
-use transactions::Open;
+use terms::Open;
 ghost use mathlib.Core.Path.{_≡_};
 ghost use Rattle.host.specs.Host.{fresh, refusedOpening, openedOf, rangeOf, acknowledgementOf};
 
@@ -78,7 +78,7 @@ fn fresh_pair(own: u16, peer: u16) -> Pair
         marks: 0,
         lowest: TransNo(0),
         closed: 0,
-        table: [transactions::FREE; 32],
+        table: [terms::FREE; 32],
     }
 }
 

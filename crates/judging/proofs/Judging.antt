@@ -15,9 +15,10 @@ use Rattle.wire.specs.Reading.{follows, dataEnd, messageAt}
 use Rattle.reader.specs.declared.Found.the-variants.{PastEnd}
 use Rattle.reader.specs.Finding.{headAt, foundAt}
 use Rattle.reader.proofs.Finding.{IsWhole, is-past}
-use Rattle.transactions.specs.declared.Open.{Open}
+use Rattle.terms.specs.declared.Open.{Open}
+use Rattle.terms.specs.Terms.{free}
 use Rattle.transactions.specs.declared.Verdict.{Verdict}
-use Rattle.transactions.specs.Transactions.{free, Transactions, verdictOf, verdict, after}
+use Rattle.transactions.specs.Transactions.{Transactions, verdictOf, verdict, after}
 use Rattle.judging.specs.declared.Judged.{Judged}
 use Rattle.judging.specs.Judging.{
   refusedAt,

@@ -3,7 +3,7 @@
 use marks::word64;
 use reader::Found;
 use seq::TransNo;
-use transactions::Open;
+use terms::Open;
 ghost use mathlib.Core.Path.{_≡_};
 ghost use mathlib.Core.Bool.{cond};
 ghost use Prim.Native.Nat.{_+_, _≤_, _<_};
@@ -33,7 +33,7 @@ fn refused_at(refusal: u8, messages: u32) -> Judged
         completed: 0,
         lowest: TransNo(0),
         closed: 0,
-        table: [transactions::FREE; 32],
+        table: [terms::FREE; 32],
         due: [0u64; 6],
     }
 }

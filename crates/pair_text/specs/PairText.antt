@@ -8,8 +8,8 @@ use lib.ListN.{getD}
 use Rattle.decimal.specs.Decimal.{decimal}
 use Rattle.io.specs.Digits.{digits}
 use Rattle.seq.specs.Ring.{advance, transSpace}
-use Rattle.transactions.specs.declared.Open.{Open}
-use Rattle.transactions.specs.Transactions.{free}
+use Rattle.terms.specs.declared.Open.{Open}
+use Rattle.terms.specs.Terms.{free}
 use Rattle.host.specs.declared.Pair.{Pair}
 
 -- `own `, ` peer `, ` next `, ` marks ` in 16 digits

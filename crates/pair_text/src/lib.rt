@@ -2,7 +2,7 @@
 // nothing. It promises specs/PairText.antt.
 use host::Pair;
 use seq::TransNo;
-use transactions::Open;
+use terms::Open;
 ghost use mathlib.Core.Path.{_≡_};
 ghost use Rattle.text.specs.Pieces.{from, putAll};
 ghost use Rattle.pair_text.specs.PairText.{

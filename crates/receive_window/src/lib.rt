@@ -8,7 +8,7 @@ use host::Stepped;
 use marks::word64;
 use seq::FrameNo;
 use seq::TransNo;
-use transactions::Open;
+use terms::Open;
 ghost use mathlib.Core.Path.{_≡_};
 ghost use Rattle.host.specs.declared.Answer.the-variants.{Again};
 ghost use Rattle.host.specs.Host.{refused};

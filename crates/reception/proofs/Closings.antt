@@ -13,9 +13,10 @@ use lib.Seq.{set-getD}
 use Rattle.octets.specs.Octets.{field}
 use Rattle.wire.specs.Format.{nextHeader}
 use Rattle.wire.specs.Reading.{follows, dataEnd, messageAt}
-use Rattle.transactions.specs.declared.Open.{Open}
+use Rattle.terms.specs.declared.Open.{Open}
+use Rattle.terms.specs.Terms.{free}
 use Rattle.transactions.specs.declared.Verdict.{Verdict}
-use Rattle.transactions.specs.Transactions.{free, after}
+use Rattle.transactions.specs.Transactions.{after}
 use Rattle.judging.specs.declared.Judged.{Judged}
 use Rattle.judging.specs.Judging.{notedOf, judgedOn, judgedFrom}
 use Rattle.judging.proofs.Judging.{judged-last, judged-more}

@@ -12,12 +12,11 @@ use Rattle.marks.specs.Marks.{mark}
 use Rattle.wire.specs.declared.MessageHeader.{MessageHeader}
 use Rattle.wire.specs.Format.{needed}
 use Rattle.wire.proofs.Format.{needed-count}
-use Rattle.transactions.specs.declared.Open.{Open}
+use Rattle.terms.specs.declared.Open.{Open}
+use Rattle.terms.specs.Terms.{messageRefusal}
+use Rattle.terms.proofs.Passing.{message-pass}
 use Rattle.transactions.specs.declared.Verdict.{Verdict}
 use Rattle.transactions.specs.Transactions.{
-  termsRefusal,
-  addressRefusal,
-  firstOf,
   fills,
   refusing,
   closing,
@@ -42,7 +41,7 @@ fills-no o h l =
 -- the three verdicts
 module _ (lowest closed : ℕ) (o : Open) (h : MessageHeader) (len size d r : ℕ)
     (d-is : d ≡ distance transSpace lowest (h .trans .0))
-    (r-is : r ≡ firstOf (termsRefusal d closed o h len) (addressRefusal size h len)) where
+    (r-is : r ≡ messageRefusal d closed o h len size) where
   opened : decided r d lowest closed o h ≡ verdictOf lowest closed o h len size
   unfolding verdictOf
   opened = rw (r-is, d-is)
@@ -57,28 +56,6 @@ module _ (lowest closed : ℕ) (o : Open) (h : MessageHeader) (len size d r : �
   is-holding e l = sym (rw (eq-eqb r 0 e, fills-no o h l)) ∙ opened
 
 -- ---- a message that is not refused
-
-first-none : (a b : ℕ) → firstOf a b ≡ 0 → a ≡ 0
-first-none a b e = go (eqb a 0) refl
-  where
-    go : (x : Bool) → eqb a 0 ≡ x → a ≡ 0
-    go true z = eqb-true a 0 z
-    go false z = rw z at e
-
--- refusals 7 and 8
-pub terms-pass : (d closed : ℕ) (o : Open) (h : MessageHeader) (len : ℕ) → termsRefusal d closed o h len ≡ 0
-    → (d < 32) × (mark closed d ≡ false)
-unfolding termsRefusal
-terms-pass d closed o h len e = go (leb 32 d) refl (mark closed d) refl
-  where
-    go : (a : Bool) → leb 32 d ≡ a → (b : Bool) → mark closed d ≡ b → (d < 32) × (mark closed d ≡ false)
-    go true z b w =
-        let q : _≡_ {A = ℕ} 7 0 = rw z at e in
-        absurd (omega arith)
-    go false z true w =
-        let q : _≡_ {A = ℕ} 8 0 = rw (z, w) at e in
-        absurd (omega arith)
-    go false z false w = (leb-false 32 d z, w)
 
 -- one that does not fill its transaction: with it, fewer were received than the count
 pub fills-left : (o : Open) (h : MessageHeader) → fills o h ≡ false → suc (o .received) < h .count
@@ -96,7 +73,7 @@ module _ (lowest closed : ℕ) (o : Open) (h : MessageHeader) (len size : ℕ)
   away = distance transSpace lowest (h .trans .0)
 
   abbrev none-of : ℕ
-  none-of = firstOf (termsRefusal away closed o h len) (addressRefusal size h len)
+  none-of = messageRefusal away closed o h len size
 
   passed : none-of ≡ 0
   unfolding verdictOf refusing
@@ -108,7 +85,7 @@ module _ (lowest closed : ℕ) (o : Open) (h : MessageHeader) (len size : ℕ)
 
   pub in-window : (distance transSpace lowest (h .trans .0) < 32)
       × (mark closed (distance transSpace lowest (h .trans .0)) ≡ false)
-  in-window = terms-pass away closed o h len (first-none _ _ passed)
+  in-window = message-pass away closed o h len size passed
 
   pub closes : fills o h ≡ true
       → verdictOf lowest closed o h len size ≡ closing lowest closed (distance transSpace lowest (h .trans .0))

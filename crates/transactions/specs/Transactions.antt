@@ -1,43 +1,17 @@
--- The host's transactions: what a message's header is refused for, and what an accepted message does to its transaction and to
--- the window of 32 transactions from the lowest one not complete on.
-use Prim.Native.Nat.{ℕ, suc, _+_, _/_, _%_, _^_}
-use mathlib.Core.Bool.{Bool, true, false, cond, not, _&&_, _||_}
+-- The host's transactions: the verdict on a message, and what an accepted one does to its transaction and to the window of 32
+-- transactions from the lowest one not complete on.
+use Prim.Native.Nat.{ℕ, suc, _/_, _%_, _^_}
+use mathlib.Core.Bool.{Bool, true, false, cond}
 use mathlib.Core.List.{List}
-use lib.Dec.{eqb, leb, ltb}
+use lib.Dec.{eqb, leb}
 use lib.ListN.{length, getD, set}
 use Rattle.seq.specs.Ring.{distance, advance, transSpace}
-use Rattle.marks.specs.Marks.{mark, withMark, leadingOnes}
+use Rattle.marks.specs.Marks.{withMark, leadingOnes}
 use Rattle.wire.specs.declared.MessageHeader.{MessageHeader}
 use Rattle.wire.specs.Format.{Message, headOf, needed}
-use Rattle.transactions.specs.declared.Open.{Open}
+use Rattle.terms.specs.declared.Open.{Open}
+use Rattle.terms.specs.Terms.{free, messageRefusal}
 use Rattle.transactions.specs.declared.Verdict.{Verdict}
-
--- A place of the table with no open transaction in it.
-abbrev pub free : Open
-free = record { count = 0; target = 0; value = 0; received = 0 }
-
--- Whether a message's header agrees with what the first message of its transaction said, if there was one.
-unfoldable pub agrees : Open → MessageHeader → Bool
-agrees o h =
-    eqb (o .received) 0
-    || (eqb (o .count) (h .count) && (eqb (o .target) (h .target) && eqb (o .value) (h .value)))
-
--- Refusals 7 to 10 of a message with `len` data bytes, 0 for none. `d` is how far its transaction lies past the lowest one that
--- is not complete, `closed` marks closed ones from there on, and `o` is its transaction's place in the table.
-unfoldable pub termsRefusal : ℕ → ℕ → Open → MessageHeader → ℕ → ℕ
-termsRefusal d closed o h len =
-    cond (leb 32 d) 7
-    (cond (mark closed d) 8
-    (cond (not (agrees o h)) 9
-    (cond (eqb (h .count) 0 && ltb 0 len) 10 0)))
-
--- Refusals 11 and 12 against a memory of `size` bytes, 0 for none. The sums are over all numbers: nothing wraps.
-unfoldable pub addressRefusal : ℕ → MessageHeader → ℕ → ℕ
-addressRefusal size h len = cond (ltb size (h .at + len)) 11 (cond (ltb size (h .target + 4)) 12 0)
-
--- The first of two refusals that is one.
-abbrev pub firstOf : ℕ → ℕ → ℕ
-firstOf a b = cond (eqb a 0) b a
 
 -- Whether the message is the last that its transaction takes. (In a pair that a run can reach, never more were received.)
 unfoldable pub fills : Open → MessageHeader → Bool
@@ -76,7 +50,7 @@ decided r d lowest closed o h =
 unfoldable pub verdictOf : ℕ → ℕ → Open → MessageHeader → ℕ → ℕ → Verdict
 verdictOf lowest closed o h len size =
     let d = distance transSpace lowest (h .trans .0) in
-    decided (firstOf (termsRefusal d closed o h len) (addressRefusal size h len)) d lowest closed o h
+    decided (messageRefusal d closed o h len size) d lowest closed o h
 
 -- ---- the whole table
 

@@ -12,7 +12,7 @@ use Rattle.transactions.proofs.judge.Reads as reads
 use Rattle.transactions.proofs.judge.Lts as lts
 use Rattle.seq.proofs.TransNo.distance.Reads as distance-reads
 use Rattle.transactions.proofs.closed_after.Reads as closed-after-reads
-use Rattle.transactions.proofs.first_refusal.Reads as first-refusal-reads
+use Rattle.terms.proofs.first_refusal.Reads as first-refusal-reads
 
 distance-requires : tie.Need-distance-requires
 distance-requires c κs = search needs

@@ -1,13 +1,13 @@
--- `transactions::first_refusal`: the terms first, then the addresses.
+-- `terms::first_refusal`: the terms first, then the addresses.
 -- Assumes nothing.
 use borrow.Author.Tests.{eq-eqb, ne-eqb}
 use borrow.Author.Needs.{needs}
-use Rattle.transactions.proofs.first_refusal.Statement.{statement}
-use Rattle.transactions.proofs.first_refusal.Tie as tie
-use Rattle.transactions.proofs.first_refusal.Reads as reads
-use Rattle.transactions.proofs.first_refusal.Lts as lts
-use Rattle.transactions.proofs.address_refusal.Reads as address-refusal-reads
-use Rattle.transactions.proofs.terms_refusal.Reads as terms-refusal-reads
+use Rattle.terms.proofs.first_refusal.Statement.{statement}
+use Rattle.terms.proofs.first_refusal.Tie as tie
+use Rattle.terms.proofs.first_refusal.Reads as reads
+use Rattle.terms.proofs.first_refusal.Lts as lts
+use Rattle.terms.proofs.address_refusal.Reads as address-refusal-reads
+use Rattle.terms.proofs.terms_refusal.Reads as terms-refusal-reads
 
 terms-refusal-requires : tie.Need-terms-refusal-requires
 terms-refusal-requires c κs = search needs

@@ -1,11 +1,11 @@
--- `transactions::has_same_terms`: each field as the definition compares it.
+-- `terms::has_same_terms`: each field as the definition compares it.
 -- Assumes nothing.
 use borrow.Author.Tests.{eq-eqb, ne-eqb}
-use Rattle.transactions.specs.Transactions.{agrees}
-use Rattle.transactions.proofs.has_same_terms.Statement.{statement}
-use Rattle.transactions.proofs.has_same_terms.Tie as tie
-use Rattle.transactions.proofs.has_same_terms.Reads as reads
-use Rattle.transactions.proofs.has_same_terms.Lts as lts
+use Rattle.terms.specs.Terms.{agrees}
+use Rattle.terms.proofs.has_same_terms.Statement.{statement}
+use Rattle.terms.proofs.has_same_terms.Tie as tie
+use Rattle.terms.proofs.has_same_terms.Reads as reads
+use Rattle.terms.proofs.has_same_terms.Lts as lts
 
 returns : tie.Need-returns
 unfolding agrees

@@ -1,14 +1,14 @@
--- `transactions::address_refusal`: each test is the definition's.
+-- `terms::address_refusal`: each test is the definition's.
 -- Assumes nothing.
 use Prim.Native.Nat.{_+_}
 use native.Mathlib.Omega.{arith}
 use borrow.Author.Tests.{lt-ltb, le-ltb}
-use Rattle.transactions.specs.Transactions.{addressRefusal}
+use Rattle.terms.specs.Terms.{addressRefusal}
 use borrow.Author.Needs.{needs}
-use Rattle.transactions.proofs.address_refusal.Statement.{statement}
-use Rattle.transactions.proofs.address_refusal.Tie as tie
-use Rattle.transactions.proofs.address_refusal.Reads as reads
-use Rattle.transactions.proofs.address_refusal.Lts as lts
+use Rattle.terms.proofs.address_refusal.Statement.{statement}
+use Rattle.terms.proofs.address_refusal.Tie as tie
+use Rattle.terms.proofs.address_refusal.Reads as reads
+use Rattle.terms.proofs.address_refusal.Lts as lts
 
 cast-if1 : tie.Need-cast-if1
 cast-if1 c = search needs

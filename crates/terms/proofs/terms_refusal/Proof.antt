@@ -1,4 +1,4 @@
--- `transactions::terms_refusal`: the tests in the definition's order.
+-- `terms::terms_refusal`: the tests in the definition's order.
 -- Assumes nothing.
 use mathlib.Core.Path.{_≡_}
 use mathlib.Core.Bool.{Bool, false, cond, not, _&&_}
@@ -8,15 +8,15 @@ use borrow.Author.Tests.{le-leb, lt-leb, lt-ltb, le-ltb, eq-eqb, ne-eqb}
 use lib.Dec.{eqb, ltb}
 use Rattle.marks.specs.Marks.{mark}
 use Rattle.wire.specs.declared.MessageHeader.{MessageHeader}
-use Rattle.transactions.specs.declared.Open.{Open}
-use Rattle.transactions.specs.Transactions.{agrees, termsRefusal}
+use Rattle.terms.specs.declared.Open.{Open}
+use Rattle.terms.specs.Terms.{agrees, termsRefusal}
 use borrow.Author.Needs.{needs}
-use Rattle.transactions.proofs.terms_refusal.Statement.{statement}
-use Rattle.transactions.proofs.terms_refusal.Tie as tie
-use Rattle.transactions.proofs.terms_refusal.Reads as reads
-use Rattle.transactions.proofs.terms_refusal.Lts as lts
+use Rattle.terms.proofs.terms_refusal.Statement.{statement}
+use Rattle.terms.proofs.terms_refusal.Tie as tie
+use Rattle.terms.proofs.terms_refusal.Reads as reads
+use Rattle.terms.proofs.terms_refusal.Lts as lts
 use Rattle.marks.proofs.word32.is_marked.Reads as is-marked-reads
-use Rattle.transactions.proofs.has_same_terms.Reads as has-same-terms-reads
+use Rattle.terms.proofs.has_same_terms.Reads as has-same-terms-reads
 
 -- neither 7 nor 8 nor 9: the test for 10 is left
 up-to-ten : (d closed : ℕ) (o : Open) (h : MessageHeader) (len : ℕ) (marked same : Bool) → d < 32 → marked ≡ mark closed d

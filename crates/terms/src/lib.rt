@@ -1,0 +1,84 @@
+// Refusals 7 to 12 of one message: its transaction's number and terms, and its addresses. Assumes nothing of the open transaction
+// that it is held against, which may be one that no run reaches. It promises specs/Terms.antt, messageRefusal.
+use marks::word32;
+use wire::MessageHeader;
+ghost use mathlib.Core.Path.{_≡_};
+ghost use Rattle.terms.specs.Terms.{agrees, termsRefusal, addressRefusal, messageRefusal};
+
+// An open transaction: what its first message said of it, and how many were received. The wide fields come first: without padding
+// the table is copied as one block.
+pub struct Open {
+    pub target: u32,
+    pub value: u32,
+    pub count: u16,
+    pub received: u16,
+}
+
+// A place that holds no transaction.
+pub const FREE: Open = Open {
+    target: 0,
+    value: 0,
+    count: 0,
+    received: 0,
+};
+
+// Whether the header says what the transaction's first message said, if there was one.
+fn has_same_terms(o: Open, h: MessageHeader) -> bool
+    ensures { λ r. ⌜ r ≡ agrees o h ⌝ }
+{
+    if o.received == 0 {
+        return true;
+    }
+    if o.count != h.count {
+        return false;
+    }
+    if o.target != h.target {
+        return false;
+    }
+    o.value == h.value
+}
+
+// Refusals 7 to 10 of a message whose transaction lies d past the lowest one that is not complete.
+fn terms_refusal(d: u32, closed: u32, o: Open, h: MessageHeader, len: u16) -> u8
+    ensures { λ r. ⌜ r ≡ termsRefusal d closed o h len ⌝ }
+{
+    if 32 <= d {
+        return refusal::TRANS_OUTSIDE;
+    }
+    if word32::is_marked(closed, d) {
+        return refusal::TRANS_CLOSED;
+    }
+    if !has_same_terms(o, h) {
+        return refusal::TERMS_DIFFER;
+    }
+    if h.count == 0 {
+        if 0 < len {
+            return refusal::BARE_WITH_DATA;
+        }
+    }
+    0
+}
+
+// Refusals 11 and 12 against a memory of size bytes. The sums are taken in words wide enough for them.
+fn address_refusal(size: usize, h: MessageHeader, len: u16) -> u8
+    ensures { λ r. ⌜ r ≡ addressRefusal size h len ⌝ }
+{
+    if size < h.at as usize + len as usize {
+        return refusal::DATA_OUTSIDE;
+    }
+    if size < h.target as usize + 4 {
+        return refusal::COMPLETION_OUTSIDE;
+    }
+    0
+}
+
+// The first refusal of a message with len data bytes, 0 for none.
+pub fn first_refusal(d: u32, closed: u32, o: Open, h: MessageHeader, len: u16, size: usize) -> u8
+    ensures { λ r. ⌜ r ≡ messageRefusal d closed o h len size ⌝ }
+{
+    let terms = terms_refusal(d, closed, o, h, len);
+    if terms == 0 {
+        return address_refusal(size, h, len);
+    }
+    terms
+}
