@@ -66,7 +66,7 @@ pub fn add_refusal(card: Card, slots: &[u8], t: TransNo, payload: &[u8]) -> u8
     ensures { λ r. ⌜ r ≡ addRefusal card (now (slots .entry)) (t .0) (now (payload .entry)) ⌝ }
 {
     let fitting = card::is_fitting(card.limit as usize, slots);
-    let taking = card.sendings.takes(t);
+    let taking = adding::takes(card.sendings, t);
     let bare = is_data_for_bare(card.sendings.sending(t).count, payload);
     let past = is_past_limit(card.limit, card.used, payload);
     let full = 64 <= card.window.unreleased();

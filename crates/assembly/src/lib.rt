@@ -118,7 +118,7 @@ fn count_message(card: Card, t: TransNo, payload: &[u8]) -> Stepped
     let mut next = card;
     next.used = (place + 24 + payload.len()) as u16;
     next.last = place as u16;
-    next.sendings = card.sendings.add(t, card.window.next);
+    next.sendings = adding::add(card.sendings, t, card.window.next);
     Stepped {
         card: next,
         refusal: 0,

@@ -1,18 +1,11 @@
-// The card's transactions: opening one, and adding a message to one. Assumes nothing of the state, which may be one that no run
-// reaches. It promises what specs/Sendings.antt says, where finishing is defined too, which the crate finishing does.
+// The card's transactions, and opening one. Assumes nothing of the state, which may be one that no run reaches. It promises what
+// specs/Sendings.antt says, where adding a message and finishing are defined too, which the crates adding and finishing do.
 use seq::FrameNo;
 use seq::TransNo;
 ghost use mathlib.Core.Path.{_≡_};
 ghost use mathlib.Core.Bool.{Bool, true, false};
 ghost use Rattle.wire.specs.Format.{needed};
-ghost use Rattle.sendings.specs.Sendings.{
-  noSendings,
-  sendingAt,
-  openingRefusal,
-  opening,
-  takes,
-  adding,
-};
+ghost use Rattle.sendings.specs.Sendings.{noSendings, sendingAt, openingRefusal, opening};
 
 // A transaction as the card sends it: its terms, how many of its messages are added, and the number of the frame that the latest
 // of them went into.
@@ -101,45 +94,5 @@ impl Sendings {
         ensures { λ r. ⌜ r ≡ sendingAt self (t .0) ⌝ }
     {
         self.table[(t.0 % 32) as usize]
-    }
-
-    // Whether a message of transaction t may be added.
-    pub fn takes(self, t: TransNo) -> bool
-        ensures { λ r. ⌜ r ≡ takes self (t .0) ⌝ }
-    {
-        let next = self.next;
-        let lowest = self.lowest;
-        if next.distance(lowest) <= t.distance(lowest) {
-            return false;
-        }
-        let e = self.table[(t.0 % 32) as usize];
-        e.added < messages_of(e.count)
-    }
-
-    // The transactions with one message more of t, in a frame; as they were where t takes none.
-    pub fn add(self, t: TransNo, frame: FrameNo) -> Sendings
-        ensures { λ r. ⌜ r ≡ adding self (t .0) (frame .0) ⌝ }
-    {
-        if !self.takes(t) {
-            return self;
-        }
-        let next = self.next;
-        let lowest = self.lowest;
-        let mut table = self.table;
-        let s = (t.0 % 32) as usize;
-        let e = table[s];
-        table[s] = Sending {
-            target: e.target,
-            value: e.value,
-            count: e.count,
-            added: e.added + 1,
-            latest: frame,
-        };
-        Sendings {
-            next,
-            lowest,
-            finished: self.finished,
-            table,
-        }
     }
 }

@@ -6,13 +6,13 @@ use Rattle.admission.proofs.add_refusal.Statement.{statement}
 use Rattle.admission.proofs.add_refusal.Tie as tie
 use Rattle.admission.proofs.add_refusal.Reads as reads
 use Rattle.admission.proofs.add_refusal.Lts as lts
+use Rattle.adding.proofs.takes.Reads as takes-reads
 use Rattle.admission.proofs.first_refusal.Reads as first-refusal-reads
 use Rattle.admission.proofs.is_data_for_bare.Reads as is-data-for-bare-reads
 use Rattle.admission.proofs.is_past_limit.Reads as is-past-limit-reads
 use Rattle.card.proofs.is_fitting.Reads as is-fitting-reads
 use Rattle.send_window.proofs.SendWindow.unreleased.Reads as unreleased-reads
 use Rattle.sendings.proofs.Sendings.sending.Reads as sending-reads
-use Rattle.sendings.proofs.Sendings.takes.Reads as takes-reads
 
 cast-is-fitting : tie.Need-cast-is-fitting
 cast-is-fitting c = search needs

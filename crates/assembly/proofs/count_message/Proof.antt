@@ -6,8 +6,8 @@ use Rattle.assembly.proofs.count_message.Statement.{statement}
 use Rattle.assembly.proofs.count_message.Tie as tie
 use Rattle.assembly.proofs.count_message.Reads as reads
 use Rattle.assembly.proofs.count_message.Lts as lts
+use Rattle.adding.proofs.add.Reads as add-reads
 use Rattle.admission.proofs.header_place.Reads as header-place-reads
-use Rattle.sendings.proofs.Sendings.add.Reads as add-reads
 
 header-place-requires : tie.Need-header-place-requires
 header-place-requires c κs = search needs

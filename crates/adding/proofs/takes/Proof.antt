@@ -1,16 +1,16 @@
--- `Sendings::takes`: opened, and with messages to come.
+-- `adding::takes`: opened, and with messages to come.
 -- Assumes nothing.
 use mathlib.Core.Path.{_≡_}
 use native.Mathlib.Omega.{arith}
 use borrow.Author.Tests.{lt-ltb, le-ltb}
 use Rattle.seq.specs.Ring.{transSpace, distance}
 use Rattle.sendings.specs.Sendings.{opened, takes}
 use borrow.Author.Needs.{needs}
-use Rattle.sendings.proofs.Sendings.takes.Statement.{statement}
-use Rattle.sendings.proofs.Sendings.takes.Tie as tie
-use Rattle.sendings.proofs.Sendings.takes.Reads as reads
-use Rattle.sendings.proofs.Sendings.takes.Lts as lts
+use Rattle.adding.proofs.takes.Statement.{statement}
+use Rattle.adding.proofs.takes.Tie as tie
+use Rattle.adding.proofs.takes.Reads as reads
+use Rattle.adding.proofs.takes.Lts as lts
 use Rattle.sendings.proofs.messages_of.Reads as messages-of-reads
 use Rattle.seq.proofs.TransNo.distance.Reads as distance-reads
 
 distance-requires : tie.Need-distance-requires

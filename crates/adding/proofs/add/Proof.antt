@@ -1,17 +1,17 @@
--- `Sendings::add`: one message more where the transaction takes it.
+-- `adding::add`: one message more where the transaction takes it.
 -- Assumes nothing.
 use mathlib.Core.Path.{sym, _∙_}
 use native.Mathlib.Omega.{arith}
 use native.Mathlib.Numerals.{add-one}
 use borrow.Author.Tests.{not-true, not-false}
 use Rattle.sendings.specs.Sendings.{sendingAt, adding}
 use borrow.Author.Needs.{needs}
 use Rattle.sendings.proofs.Adding.{takes-room}
-use Rattle.sendings.proofs.Sendings.add.Statement.{statement}
-use Rattle.sendings.proofs.Sendings.add.Tie as tie
-use Rattle.sendings.proofs.Sendings.add.Reads as reads
-use Rattle.sendings.proofs.Sendings.add.Lts as lts
-use Rattle.sendings.proofs.Sendings.takes.Reads as takes-reads
+use Rattle.adding.proofs.add.Statement.{statement}
+use Rattle.adding.proofs.add.Tie as tie
+use Rattle.adding.proofs.add.Reads as reads
+use Rattle.adding.proofs.add.Lts as lts
+use Rattle.adding.proofs.takes.Reads as takes-reads
 
 takes-requires : tie.Need-takes-requires
 takes-requires c κs = search needs
@@ -20,8 +20,8 @@ returns : tie.Need-returns
 unfolding adding
 returns c = rw (sym (c .before .takes .ensures) ∙ not-true (c .before .takes .result) (c .if1 .taken))
 
-cast-s : tie.Need-cast-s
-cast-s c = search needs
+cast-place : tie.Need-cast-place
+cast-place c = search needs
 
 mul-e : tie.Need-mul-e
 mul-e c = search needs
@@ -34,7 +34,7 @@ add-t16 c =
     let s = c .before .before .before .before .before .before in
     let a = s .before .before .args in
     let yes = sym (s .before .takes .ensures) ∙ not-false (s .before .takes .result) (s .if1 .left) in
-    omega (arith, takes-room (a .self) (a .t .0) yes (search needs))
+    omega (arith, takes-room (a .s) (a .t .0) yes (search needs))
 
 mul-table : tie.Need-mul-table
 mul-table c = search needs
@@ -49,7 +49,7 @@ returns-2 c =
     let a = s .before .before .args in
     rw (
       sym (s .before .takes .ensures) ∙ not-false (s .before .takes .result) (s .if1 .left),
-      ← add-one (sendingAt (a .self) (a .t .0) .added),
+      ← add-one (sendingAt (a .s) (a .t .0) .added),
     )
 
 pub add-spec : {M : Type 1} → statement M
@@ -58,7 +58,7 @@ add-spec =
     (tie.spec
     takes-requires
     returns
-    cast-s
+    cast-place
     mul-e
     array-copy-out-e
     add-t16
