@@ -485,12 +485,12 @@ FLOORS = {
     "ground": ("ground: no knowledge of frames", GREY, 30, 860, 1, 1),
     "format": ("format: defined once, in wire", BLUE, 300, 860, 2, 5),
     "card": ("card", GREEN, 30, 500, 6, 9),
-    "host": ("host", AMBER, 552, 812, 6, 10),
+    "host": ("host", AMBER, 552, 812, 6, 11),
     "C": ("C: numbers, byte slices", TEAL, 846, 970, 6, 6),
-    "theorem": ("theorem", VIOLET, 30, 230, 11, 11),
-    "tests": ("tests", GREY, 300, 760, 11, 11),
-    "lines": ("lines: characters and text", ROSE, 1010, 1350, 2, 12),
-    "programs": ("programs: input and output", TEAL, 1010, 1350, 13, 13),
+    "theorem": ("theorem", VIOLET, 30, 230, 12, 12),
+    "tests": ("tests", GREY, 300, 760, 12, 12),
+    "lines": ("lines: characters and text", ROSE, 1010, 1350, 2, 13),
+    "programs": ("programs: input and output", TEAL, 1010, 1350, 14, 14),
 }
 
 # Where a crate is drawn: its floor, its row from below, and the middle of its box.
@@ -500,26 +500,26 @@ PLACES = {
     "wire": ("format", 2, 580), "headers": ("format", 3, 420), "reader": ("format", 3, 680),
     "writer": ("format", 4, 400), "heading": ("format", 4, 720), "layout": ("format", 5, 780),
     "send_window": ("card", 6, 120), "sendings": ("card", 6, 310),
-    "releasing": ("card", 7, 90), "card": ("card", 7, 230), "finishing": ("card", 7, 360),
+    "releasing": ("card", 7, 86), "card": ("card", 7, 190), "adding": ("card", 7, 290), "finishing": ("card", 7, 410),
     "acknowledgements": ("card", 8, 120), "retransmission": ("card", 8, 300), "admission": ("card", 8, 440),
     "reachable_card": ("card", 9, 220), "assembly": ("card", 9, 430),
-    "transactions": ("host", 6, 660), "host": ("host", 7, 610), "judging": ("host", 7, 740),
-    "depositing": ("host", 8, 620), "closing": ("host", 8, 750),
-    "receive_window": ("host", 9, 650), "reception": ("host", 10, 690),
+    "terms": ("host", 6, 690), "transactions": ("host", 7, 690), "host": ("host", 8, 610), "judging": ("host", 8, 740),
+    "depositing": ("host", 9, 620), "closing": ("host", 9, 750),
+    "receive_window": ("host", 10, 650), "reception": ("host", 11, 690),
     "capi": ("C", 6, 908),
-    "delivery": ("theorem", 11, 130),
-    "edges": ("tests", 11, 380), "host_run": ("tests", 11, 690),
+    "delivery": ("theorem", 12, 130),
+    "edges": ("tests", 12, 380), "host_run": ("tests", 12, 690),
     "hexline": ("lines", 2, 1070), "decimal": ("lines", 2, 1180), "buffer": ("lines", 2, 1290),
     "hexfeed": ("lines", 3, 1060), "answer_line": ("lines", 3, 1180), "text": ("lines", 3, 1290),
     "words": ("lines", 4, 1060), "wording": ("lines", 4, 1240),
     "kinds": ("lines", 5, 1060), "script": ("lines", 6, 1060),
-    "pair_text": ("lines", 8, 1240),
-    "report": ("lines", 11, 1070), "card_calls": ("lines", 11, 1240), "host_calls": ("lines", 12, 1240),
-    "replay": ("programs", 13, 1070), "calls": ("programs", 13, 1240),
+    "pair_text": ("lines", 9, 1240),
+    "report": ("lines", 12, 1070), "card_calls": ("lines", 12, 1240), "host_calls": ("lines", 13, 1240),
+    "replay": ("programs", 14, 1070), "calls": ("programs", 14, 1240),
 }
 
 TOP, PITCH, BOX = 60, 86, 32
-ROWS = 14
+ROWS = 15
 WIDTH = 1380
 
 
