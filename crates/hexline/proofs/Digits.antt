@@ -2,6 +2,7 @@
 -- Assumes nothing.
 use mathlib.Core.Path.{_≡_, refl, sym, _∙_, ap}
 use mathlib.Core.Bool.{Bool, true, false, cond}
+use mathlib.Core.List.{List}
 use mathlib.Core.Logic.{_≢_}
 use mathlib.Core.Option.{none, some}
 use Prim.Native.Nat.{ℕ, zero, suc, _+_, _-_, _≤_, _<_}
@@ -83,3 +84,7 @@ entry (suc n) i (suc k) h =
 pub value-at : (c : ℕ) → c < 256 → getD digitValues c 0 ≡ valueOr16 (digit c)
 unfolding digitValues
 value-at c h = entry 256 0 c h ∙ rw (zero-add c)
+
+pub looked-up : (values : List ℕ) (c v : ℕ) → values ≡ digitValues → (v ≡ getD values c 0) × (c < 256)
+    → v ≡ valueOr16 (digit c)
+looked-up values c v e f = f .0 ∙ rw e (value-at c (f .1))

@@ -1,4 +1,4 @@
--- The table of digits; and how far a walk over a piece has come, which only private functions promise.
+-- The table of digits; and how far a walk over a piece has come, which proofs follow.
 use mathlib.Core.Path.{_≡_}
 use mathlib.Core.List.{List, [], _∷_}
 use Prim.Native.Nat.{ℕ, zero, suc, _+_}

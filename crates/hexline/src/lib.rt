@@ -1,7 +1,9 @@
 // A line of hexadecimal: what is known of it after some of its characters, and the values of digits. Assumes nothing. It promises
 // what specs/Taking.antt says of a line and specs/Walking.antt of the table; proofs/Decoding.antt shows what frame a line spells.
 ghost use mathlib.Core.Path.{_≡_};
-ghost use Rattle.hexline.specs.Taking.{start, refusedLine, emptyLine};
+ghost use Prim.Native.Nat.{_<_};
+ghost use lib.ListN.{getD};
+ghost use Rattle.hexline.specs.Taking.{start, refusedLine, emptyLine, takenOf};
 ghost use Rattle.hexline.specs.Walking.{digitValues};
 
 // The line being read: the bytes complete so far, of which no more than 9,001 are counted; the digit that waits for its
@@ -57,6 +59,23 @@ impl Line {
     }
 }
 
+// What a piece gave, made from the numbers that a loop works on.
+pub fn taken_of(len: usize, half: u8, odd: bool, bad: bool, at: usize, ended: bool) -> Taken
+    ensures { λ r. ⌜ r ≡ takenOf len half odd bad at ended ⌝ }
+{
+    let line = Line {
+        len: len,
+        half: half,
+        odd: odd,
+        bad: bad,
+    };
+    Taken {
+        line: line,
+        at: at,
+        ended: ended,
+    }
+}
+
 // The value of each character as a digit, and 16 where it is none, sixteen characters to a row: 0 to 9 are in the fourth
 // row, A to F in the fifth, a to f in the seventh. A loop calls it before its first turn, since a call copies the table.
 pub fn digit_values() -> [u8; 256]
@@ -80,4 +99,11 @@ pub fn digit_values() -> [u8; 256]
         \x10\x10\x10\x10\x10\x10\x10\x10\x10\x10\x10\x10\x10\x10\x10\x10\
         \x10\x10\x10\x10\x10\x10\x10\x10\x10\x10\x10\x10\x10\x10\x10\x10\
         "
+}
+
+// What a table has for a character, which is below 256.
+pub fn digit_value(values: &[u8; 256], c: u8) -> u8
+    ensures { λ r. ⌜ (r ≡ getD (now (values .entry)) c 0) × (c < 256) ⌝ }
+{
+    values[c as usize]
 }

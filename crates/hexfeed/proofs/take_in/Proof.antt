@@ -8,7 +8,7 @@ use borrow.Author.Needs.{needs}
 use lib.ListN.{length}
 use Rattle.hexline.specs.Taking.{state}
 use Rattle.hexline.specs.Walking.{Walked}
-use Rattle.hexline.proofs.Digits.{value-is, value-none}
+use Rattle.hexline.proofs.Digits.{looked-up, value-is, value-none}
 use Rattle.hexline.proofs.Taking.{
   walked-start,
   walked-on,
@@ -20,15 +20,16 @@ use Rattle.hexline.proofs.Taking.{
   on-high,
   on-full,
 }
+use Rattle.hexpairs.proofs.Laws.{front-walked}
 use Rattle.hexfeed.proofs.take_in.Statement.{statement}
 use Rattle.hexfeed.proofs.take_in.Tie as tie
 use Rattle.hexfeed.proofs.take_in.Reads as reads
 use Rattle.hexfeed.proofs.take_in.Lts as lts
-use Rattle.hexfeed.proofs.answer.Reads as answer-reads
+use Rattle.hexline.proofs.digit_value.Reads as digit-value-reads
 use Rattle.hexline.proofs.digit_values.Reads as digit-values-reads
+use Rattle.hexline.proofs.taken_of.Reads as taken-of-reads
+use Rattle.hexpairs.proofs.take_pairs.Reads as take-pairs-reads
 use Rattle.octets.proofs.keep.Reads as keep-reads
-use Rattle.hexfeed.proofs.take_pairs.Reads as take-pairs-reads
-use Rattle.hexfeed.proofs.value_in.Reads as value-in-reads
 
 abbrev Inv-loop : tie.InvT-loop
 Inv-loop frame₀ piece from len₀ half₀ odd₀ bad₀ at₀ values frame len half odd bad at =
@@ -52,24 +53,25 @@ shared-slice-read-c c = search needs
 add-at : tie.Need-add-at Inv-loop μ-loop
 add-at c = search needs
 
-answer-requires : tie.Need-answer-requires Inv-loop μ-loop
-answer-requires c κs = search needs
+taken-of-requires : tie.Need-taken-of-requires Inv-loop μ-loop
+taken-of-requires c κs = search needs
 
 same-length : tie.Need-same-length Inv-loop μ-loop
 same-length c =
     let at-loop = c .before .before .before .before in
-    at-loop .loop .inv .size ∙ at-loop .before .before .before .before .before .take-pairs .ensures .size
+    let front = front-walked _ _ _ _ _ _ (at-loop .before .before .before .before .before .take-pairs .ensures) in
+    at-loop .loop .inv .size ∙ front .size
 
 returns : tie.Need-returns Inv-loop μ-loop
 returns c =
     let s = c .before in
     let at-loop = s .before .before .before in
-    let front = at-loop .before .before .before .before .before .take-pairs .ensures in
-    rw (c .answer .ensures)
+    let front = front-walked _ _ _ _ _ _ (at-loop .before .before .before .before .before .take-pairs .ensures) in
+    rw (c .taken-of .ensures)
     (walked-newline (walked-on front (at-loop .loop .inv)) (s .before .before .loop-test .taken) (s .if1 .taken))
 
-value-in-requires : tie.Need-value-in-requires Inv-loop μ-loop
-value-in-requires c κs = search needs
+digit-value-requires : tie.Need-digit-value-requires Inv-loop μ-loop
+digit-value-requires c κs = search needs
 
 loop-less : tie.Need-loop-less Inv-loop μ-loop
 loop-less c = omega arith
@@ -77,8 +79,10 @@ loop-less c = omega arith
 loop-again : tie.Need-loop-again Inv-loop μ-loop
 loop-again c =
     let s = c .before .before .before in
-    walked-turn (s .before .before .before .loop .inv) _ (s .before .before .loop-test .taken) (s .if1 .left)
-    (on-bad _ _ _ _ _ _ (value-none _ _ (c .before .value-in .ensures) (c .if2 .taken)))
+    let at-loop = s .before .before .before in
+    let d-is = looked-up _ _ _ (at-loop .before .digit-values .ensures) (c .before .digit-value .ensures) in
+    walked-turn (at-loop .loop .inv) _ (s .before .before .loop-test .taken) (s .if1 .left)
+    (on-bad _ _ _ _ _ _ (value-none _ _ d-is (c .if2 .taken)))
     refl
 
 loop-less-2 : tie.Need-loop-less-2 Inv-loop μ-loop
@@ -88,8 +92,10 @@ loop-again-2 : tie.Need-loop-again-2 Inv-loop μ-loop
 loop-again-2 c =
     let v = c .before .before in
     let s = v .before .before in
-    walked-turn (s .before .before .before .loop .inv) _ (s .before .before .loop-test .taken) (s .if1 .left)
-    (on-high _ _ _ _ _ _ _ (value-is _ _ (v .value-in .ensures) (c .before .if2 .left)) (not-true _ (c .if3 .taken)))
+    let at-loop = s .before .before .before in
+    let d-is = looked-up _ _ _ (at-loop .before .digit-values .ensures) (v .digit-value .ensures) in
+    walked-turn (at-loop .loop .inv) _ (s .before .before .loop-test .taken) (s .if1 .left)
+    (on-high _ _ _ _ _ _ _ (value-is _ _ d-is (c .before .if2 .left)) (not-true _ (c .if3 .taken)))
     refl
 
 loop-less-3 : tie.Need-loop-less-3 Inv-loop μ-loop
@@ -99,8 +105,10 @@ loop-again-3 : tie.Need-loop-again-3 Inv-loop μ-loop
 loop-again-3 c =
     let v = c .before .before .before in
     let s = v .before .before in
-    walked-turn (s .before .before .before .loop .inv) _ (s .before .before .loop-test .taken) (s .if1 .left)
-    (on-full _ _ _ _ _ _ _ (value-is _ _ (v .value-in .ensures) (c .before .before .if2 .left))
+    let at-loop = s .before .before .before in
+    let d-is = looked-up _ _ _ (at-loop .before .digit-values .ensures) (v .digit-value .ensures) in
+    walked-turn (at-loop .loop .inv) _ (s .before .before .loop-test .taken) (s .if1 .left)
+    (on-full _ _ _ _ _ _ _ (value-is _ _ d-is (c .before .before .if2 .left))
     (not-false _ (c .before .if3 .left)) (c .if4 .taken))
     refl
 
@@ -124,24 +132,27 @@ loop-again-4 c =
     let f = c .before .before .before .before in
     let v = f .before .before .before in
     let s = v .before .before in
-    walked-kept (s .before .before .before .loop .inv) _ _ (c .before .before .keep .ensures)
+    let at-loop = s .before .before .before in
+    let d-is = looked-up _ _ _ (at-loop .before .digit-values .ensures) (v .digit-value .ensures) in
+    walked-kept (at-loop .loop .inv) _ _ (c .before .before .keep .ensures)
     (s .before .before .loop-test .taken) (s .if1 .left)
-    (value-is _ _ (v .value-in .ensures) (f .before .before .if2 .left)) (not-false _ (f .before .if3 .left))
+    (value-is _ _ d-is (f .before .before .if2 .left)) (not-false _ (f .before .if3 .left))
     (f .if4 .left)
 
-answer-requires-2 : tie.Need-answer-requires-2 Inv-loop μ-loop
-answer-requires-2 c κs = search needs
+taken-of-requires-2 : tie.Need-taken-of-requires-2 Inv-loop μ-loop
+taken-of-requires-2 c κs = search needs
 
 same-length-2 : tie.Need-same-length-2 Inv-loop μ-loop
 same-length-2 c =
     let at-loop = c .before .before in
-    at-loop .loop .inv .size ∙ at-loop .before .before .before .before .before .take-pairs .ensures .size
+    let front = front-walked _ _ _ _ _ _ (at-loop .before .before .before .before .before .take-pairs .ensures) in
+    at-loop .loop .inv .size ∙ front .size
 
 returns-2 : tie.Need-returns-2 Inv-loop μ-loop
 returns-2 c =
     let at-loop = c .before .before in
-    let front = at-loop .before .before .before .before .before .take-pairs .ensures in
-    rw (c .answer2 .ensures) (walked-end (walked-on front (at-loop .loop .inv)) (c .before .loop-test .left))
+    let front = front-walked _ _ _ _ _ _ (at-loop .before .before .before .before .before .take-pairs .ensures) in
+    rw (c .taken-of2 .ensures) (walked-end (walked-on front (at-loop .loop .inv)) (c .before .loop-test .left))
 
 pub take-in-spec : {M : Type 1} → statement M
 take-in-spec =
@@ -154,10 +165,10 @@ take-in-spec =
     loop-holds
     shared-slice-read-c
     add-at
-    answer-requires
+    taken-of-requires
     same-length
     returns
-    value-in-requires
+    digit-value-requires
     loop-less
     loop-again
     loop-less-2
@@ -170,6 +181,6 @@ take-in-spec =
     add-len
     loop-less-4
     loop-again-4
-    answer-requires-2
+    taken-of-requires-2
     same-length-2
     returns-2)
