@@ -1,12 +1,12 @@
 -- The verdict on a message, case by case.
 -- Assumes nothing.
-use mathlib.Core.Path.{_≡_, refl, sym, _∙_, ap}
+use mathlib.Core.Path.{_≡_, refl, sym, _∙_}
 use mathlib.Core.Logic.{_≢_}
-use mathlib.Core.Bool.{Bool, true, false, cond, not, _&&_, _||_}
-use Prim.Native.Nat.{ℕ, zero, suc, _+_, _≤_, _<_}
+use mathlib.Core.Bool.{Bool, true, false}
+use Prim.Native.Nat.{ℕ, zero, suc, _≤_, _<_}
 use native.Mathlib.Omega.{arith}
 use borrow.Author.Tests.{le-leb, lt-leb, leb-false, eq-eqb, ne-eqb, eqb-true}
-use lib.Dec.{eqb, leb}
+use lib.Dec.{eqb}
 use Rattle.seq.specs.Ring.{distance, transSpace}
 use Rattle.marks.specs.Marks.{mark}
 use Rattle.wire.specs.declared.MessageHeader.{MessageHeader}
@@ -16,14 +16,7 @@ use Rattle.terms.specs.declared.Open.{Open}
 use Rattle.terms.specs.Terms.{messageRefusal}
 use Rattle.terms.proofs.Passing.{message-pass}
 use Rattle.transactions.specs.declared.Verdict.{Verdict}
-use Rattle.transactions.specs.Transactions.{
-  fills,
-  refusing,
-  closing,
-  holding,
-  decided,
-  verdictOf,
-}
+use Rattle.transactions.specs.Transactions.{fills, refusing, closing, holding, decided, verdictOf}
 
 pub fills-yes : (o : Open) (h : MessageHeader) → h .count ≤ suc (o .received) → fills o h ≡ true
 unfolding fills needed
