@@ -1,7 +1,7 @@
--- Pairs of digits taken two characters at a time are a part of the walk from character to character.
+-- Pairs of digits: a turn of the loop that takes them, and that they are a part of the walk from character to character.
 -- Assumes nothing.
 use mathlib.Core.Path.{_≡_, refl, sym, _∙_, ap}
-use mathlib.Core.Bool.{Bool, true, false, cond}
+use mathlib.Core.Bool.{Bool, true, false}
 use mathlib.Core.List.{List}
 use Prim.Native.Nat.{ℕ, zero, suc, _+_, _-_, _*_, _/_, _≤_, _<_, min}
 use native.Mathlib.Decide.{decLt}

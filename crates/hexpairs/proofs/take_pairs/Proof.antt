@@ -1,11 +1,9 @@
 -- `hexpairs::take_pairs`: each turn takes a pair of what is left to take, and the piece has two characters for each.
 -- Assumes nothing.
-use mathlib.Core.Path.{refl}
 use Prim.Native.Nat.{_-_}
 use native.Mathlib.Omega.{arith}
 use borrow.Author.Needs.{needs}
 use Rattle.hexline.proofs.Digits.{looked-up}
-use Rattle.hexpairs.specs.Pairs.{frontOf}
 use Rattle.hexpairs.proofs.Laws.{Left, left-start, left-waiting, left-high, left-low, left-turn, left-done}
 use Rattle.hexpairs.proofs.take_pairs.Statement.{statement}
 use Rattle.hexpairs.proofs.take_pairs.Tie as tie
