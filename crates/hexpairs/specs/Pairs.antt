@@ -1,5 +1,5 @@
--- Pairs of digits at the front of a piece of the input, taken two characters at a time. proofs/Laws.antt shows that they come to what
--- hexline/specs/Taking.antt says of the characters one by one.
+-- Pairs of digits at the front of a piece of the input, taken two characters at a time. proofs/Laws.antt shows that they come to
+-- what hexline/specs/Taking.antt says of the characters one by one.
 use Prim.Native.Nat.{ℕ, zero, suc, _+_, _-_, _*_, _/_, min}
 use mathlib.Core.Bool.{Bool, false, cond}
 use mathlib.Core.List.{List}

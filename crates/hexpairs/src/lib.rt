@@ -1,6 +1,6 @@
-// The pairs of digits at the front of a piece of a line, with their bytes put into a lent frame. Assumes nothing: any characters and any
-// lengths get an answer. It promises the line, the index and every byte of the frame as specs/Pairs.antt says; proofs/Laws.antt shows
-// that this is a part of the walk from character to character.
+// The pairs of digits at the front of a piece of a line, with their bytes put into a lent frame. Assumes nothing: any characters and
+// any lengths get an answer. It promises the line, the index and every byte of the frame as specs/Pairs.antt says; proofs/Laws.antt
+// shows that this is a part of the walk from character to character.
 use hexline::Line;
 use hexline::Taken;
 ghost use mathlib.Core.Path.{_≡_};
