@@ -25,10 +25,10 @@ fn acknowledge(card: Card, start: FrameNo, count: u8) -> Stepped
 pub fn read_acknowledgements(card: Card, f: &[u8]) -> Stepped
     ensures { λ r. ⌜ r ≡ readAcks card (now (f .entry)) ⌝ }
 {
-    let refusal = layout::refusal_of(f, card.own, card.peer);
+    let refusal = wire_layout::refusal_of(f, card.own, card.peer);
     if refusal != 0 {
         return Stepped { card, refusal };
     }
-    let head = reader::frame_header(f);
+    let head = wire_read::frame_header(f);
     acknowledge(card, head.ackstart, head.ackcount)
 }

@@ -34,7 +34,7 @@ pub fn add(s: Sendings, t: TransNo, frame: FrameNo) -> Sendings
     let place = (t.0 % 32) as usize;
     let e = table[place];
     table[place] = Sending {
-        target: e.target,
+        address: e.address,
         value: e.value,
         count: e.count,
         added: e.added + 1,

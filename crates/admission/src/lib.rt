@@ -44,13 +44,13 @@ fn first_refusal(fitting: bool, taking: bool, bare: bool, full: bool, past: bool
     ensures { λ r. ⌜ r ≡ cond (not fitting) 26 (cond (not taking) 23 (cond bare 27 (cond full 21 (cond past 22 0)))) ⌝ }
 {
     if !fitting {
-        return refusal::BAD_SLOTS;
+        return refusal::BAD_LIMIT_OR_SLOTS;
     }
     if !taking {
-        return refusal::TRANS_UNKNOWN;
+        return refusal::NO_MESSAGE_LEFT;
     }
     if bare {
-        return refusal::ADDING_TO_BARE;
+        return refusal::DATA_FOR_BARE;
     }
     if full {
         return refusal::FRAME_WINDOW_FULL;

@@ -29,9 +29,9 @@ ghost use Rattle.card.specs.Card.{
 
 // ---- opening a transaction
 
-// Opens a transaction of count data messages whose completion writes value at target.
-pub fn open_transaction(card: Card, count: u16, target: u32, value: u32) -> TransOpened
-    ensures { λ r. ⌜ r ≡ openTransaction card count target value ⌝ }
+// Opens a transaction of count data messages whose completion writes value at address.
+pub fn open_transaction(card: Card, count: u16, address: u32, value: u32) -> TransOpened
+    ensures { λ r. ⌜ r ≡ openTransaction card count address value ⌝ }
 {
     let refusal = card.sendings.opening_refusal();
     if refusal != 0 {
@@ -43,7 +43,7 @@ pub fn open_transaction(card: Card, count: u16, target: u32, value: u32) -> Tran
     }
     let trans = card.sendings.next;
     let mut next = card;
-    next.sendings = card.sendings.open(count, target, value);
+    next.sendings = card.sendings.open(count, address, value);
     TransOpened {
         card: next,
         refusal: 0,
@@ -60,10 +60,10 @@ fn header_of(card: Card, t: TransNo, at: u32) -> MessageHeader
     let e = card.sendings.sending(t);
     MessageHeader {
         trans: t,
-        target: e.target,
-        value: e.value,
+        completion_address: e.address,
+        completion_value: e.value,
         count: e.count,
-        at,
+        data_address: at,
     }
 }
 
@@ -83,10 +83,10 @@ fn write_in_slot(
         (nextMessage (now (slot .entry)) used last (carrying h (now (payload .entry)))) ⌝ }
 {
     if used == 0 {
-        writer::write_first(slot, to, from, number, h, payload);
+        wire_write::write_first(slot, to, from, number, h, payload);
         return;
     }
-    writer::write_next(slot, used as usize, last as usize, h, payload);
+    wire_write::write_next(slot, used as usize, last as usize, h, payload);
 }
 
 // Writes a message that has room into the slot of the frame being built, which is lent to the frame writer.
@@ -146,7 +146,12 @@ pub fn seal_frame(card: Card, slots: &[u8]) -> Sealed
 {
     let fitting = card::is_fitting(card.limit as usize, slots);
     let none = card.used == 0;
-    let refusal = card::first_refusal(!fitting, refusal::BAD_SLOTS, none, refusal::NOTHING_TO_SEAL);
+    let refusal = card::first_refusal(
+        !fitting,
+        refusal::BAD_LIMIT_OR_SLOTS,
+        none,
+        refusal::NOTHING_TO_SEAL,
+    );
     if refusal != 0 {
         return Sealed {
             card,

@@ -3,8 +3,8 @@ use Prim.Native.Nat.{ℕ}
 use mathlib.Core.Bool.{true}
 use mathlib.Core.List.{List}
 use Rattle.wire.specs.Reading.{readFrame}
-use Rattle.layout.specs.declared.Layout.{Layout}
-use Rattle.layout.specs.Layout.{layoutOf}
+use Rattle.wire_layout.specs.declared.Layout.{Layout}
+use Rattle.wire_layout.specs.Layout.{layoutOf}
 
 abbrev pub layoutIn : List ℕ → Layout
 layoutIn f = layoutOf (readFrame true f)

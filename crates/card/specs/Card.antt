@@ -57,7 +57,7 @@ openCard own peer limit slots =
 
 -- The transaction's number is handed back, and 0 where the step is refused.
 unfoldable pub openTransaction : Card → ℕ → ℕ → ℕ → TransOpened
-openTransaction c count target value =
+openTransaction c count address value =
     let r = openingRefusal (c .sendings) in
     cond (eqb r 0)
     (record {
@@ -68,7 +68,7 @@ openTransaction c count target value =
         used = c .used;
         last = c .last;
         window = c .window;
-        sendings = opening (c .sendings) count target value;
+        sendings = opening (c .sendings) count address value;
       };
       refusal = 0;
       trans = c .sendings .next;
@@ -100,7 +100,7 @@ addRefusal c slots t bytes =
 unfoldable pub messageOf : Card → ℕ → ℕ → List ℕ → Message
 messageOf c t at bytes =
     let e = sendingAt (c .sendings) t in
-    record { trans = t; target = e .target; value = e .value; count = e .count; at = at; bytes = bytes }
+    record { trans = t; completionAddress = e .address; completionValue = e .value; count = e .count; dataAddress = at; bytes = bytes }
 
 -- The slot with the message written: the first one brings the frame header, a later one the trailing byte before it and the gap.
 unfoldable pub builtSlot : Card → List ℕ → Message → List ℕ

@@ -93,7 +93,12 @@ pub fn open_card(own: u16, peer: u16, limit: usize, slots: &[u8]) -> Stepped
 {
     let no_id = (own == 0) | (peer == 0);
     let fitting = is_fitting(limit, slots);
-    let refusal = first_refusal(no_id, refusal::ID_ZERO, !fitting, refusal::BAD_SLOTS);
+    let refusal = first_refusal(
+        no_id,
+        refusal::ID_ZERO,
+        !fitting,
+        refusal::BAD_LIMIT_OR_SLOTS,
+    );
     if refusal != 0 {
         return Stepped {
             card: fresh_card(0, 0, 0),

@@ -108,7 +108,7 @@ fn put_slot(out: &mut [u8], at: usize, limit: u16, part: &[u8]) -> usize
     ensures { λ r. ⌜ r ≡ putAll (from (now (out .entry)) at) (slotLine limit (now (part .entry))) .at ⌝ }
     ensures { λ _. ⌜ now (out .exit) ≡ putAll (from (now (out .entry)) at) (slotLine limit (now (part .entry))) .out ⌝ }
 {
-    let head = reader::frame_header(part);
+    let head = wire_read::frame_header(part);
     let number = head.number;
     let place = (number.0 % 64) as u64 * limit as u64;
     let a = text::put_field(out, at, b"slot ", place);

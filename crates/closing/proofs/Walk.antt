@@ -12,9 +12,9 @@ use Rattle.octets.specs.Octets.{field}
 use Rattle.wire.specs.declared.MessageHeader.{MessageHeader}
 use Rattle.wire.specs.Format.{nextHeader, frameMost}
 use Rattle.wire.specs.Reading.{follows, dataEnd, messageAt}
-use Rattle.reader.specs.declared.Found.the-variants.{PastEnd}
-use Rattle.reader.specs.Finding.{foundAt}
-use Rattle.reader.proofs.Finding.{IsWhole, is-past}
+use Rattle.wire_read.specs.declared.Found.the-variants.{PastEnd}
+use Rattle.wire_read.specs.Finding.{foundAt}
+use Rattle.wire_read.proofs.Finding.{IsWhole, is-past}
 use Rattle.terms.specs.declared.Open.{Open}
 use Rattle.terms.specs.Terms.{free}
 use Rattle.transactions.specs.declared.Verdict.{Verdict}
@@ -46,11 +46,11 @@ unfolding sameOpen
 same-open a b e =
     let p = both (eqb (a .received) (b .received)) _ e in
     let q = both (eqb (a .count) (b .count)) _ (p .1) in
-    let r = both (eqb (a .target) (b .target)) _ (q .1) in
+    let r = both (eqb (a .address) (b .address)) _ (q .1) in
     rw (
       eqb-true (a .received) (b .received) (p .0),
       eqb-true (a .count) (b .count) (q .0),
-      eqb-true (a .target) (b .target) (r .0),
+      eqb-true (a .address) (b .address) (r .0),
       eqb-true (a .value) (b .value) (r .1),
     )
 

@@ -18,7 +18,7 @@ use Rattle.closing.specs.declared.Closing.{Closing}
 unfoldable pub sameOpen : Open → Open → Bool
 sameOpen a b =
     eqb (a .received) (b .received)
-    && (eqb (a .count) (b .count) && (eqb (a .target) (b .target) && eqb (a .value) (b .value)))
+    && (eqb (a .count) (b .count) && (eqb (a .address) (b .address) && eqb (a .value) (b .value)))
 
 -- A message that completes its transaction and leaves the transaction's place as it is.
 unfoldable pub closes : Verdict → Open → Bool

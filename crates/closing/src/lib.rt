@@ -1,9 +1,9 @@
 // The first pass over frames whose messages all complete their transaction and leave the table of open transactions as it is:
 // at less cost than judging any frame. Assumes nothing: any bytes and any table get an answer. It promises specs/Closing.antt.
-use reader::Found;
 use seq::TransNo;
 use terms::Open;
 use transactions::Verdict;
+use wire_read::Found;
 ghost use mathlib.Core.Path.{_≡_};
 ghost use Rattle.closing.specs.Closing.{sameOpen, closes, closingOf};
 
@@ -17,7 +17,7 @@ fn is_same(a: Open, b: Open) -> bool
     if a.count != b.count {
         return false;
     }
-    if a.target != b.target {
+    if a.address != b.address {
         return false;
     }
     a.value == b.value
@@ -66,7 +66,7 @@ pub fn judge_closing(low: TransNo, shut: u32, table: [Open; 32], f: &[u8], size:
     let mut bytes: u32 = 0;
     let mut at = 10;
     loop {
-        let found = reader::message_at(f, at);
+        let found = wire_read::message_at(f, at);
         match found {
             Found::PastEnd => return NONE,
             Found::Whole(h, len, more, next) => {

@@ -72,7 +72,7 @@ module _ (c : Card) (slots : List ℕ) (b : Book) (r : CardFor c slots b) (s : S
   i = lowUnfinished b + distance transSpace (c .sendings .lowest .0) t
 
   abbrev pub e : MessageRecord
-  e = record { trans = i; at = at; bytes = bytes }
+  e = record { trans = i; dataAddress = at; bytes = bytes }
 
   abbrev told : Sending
   told = sendingAt (c .sendings) t
@@ -126,7 +126,7 @@ module _ (c : Card) (slots : List ℕ) (b : Book) (r : CardFor c slots b) (s : S
   pub entered : enterMessage b t at bytes ≡ withAdded b e
   unfolding enterMessage
   entered =
-      ap (λ (k : ℕ). withAdded b (record { trans = k; at = at; bytes = bytes }))
+      ap (λ (k : ℕ). withAdded b (record { trans = k; dataAddress = at; bytes = bytes }))
       (ap (latest transSpace total) (sym t-is)
       ∙ latest-is transSpace (lit< tt) total i i-open (omega (arith, s .transFit)))
 
@@ -137,7 +137,7 @@ module _ (c : Card) (slots : List ℕ) (b : Book) (r : CardFor c slots b) (s : S
 
   m-is : m ≡ wired (b .transactions) e
   unfolding messageOf
-  m-is = rw (terms-for .countIs, terms-for .targetIs, terms-for .valueIs, t-is)
+  m-is = rw (terms-for .countIs, terms-for .addressIs, terms-for .valueIs, t-is)
 
   abbrev pub added-card : Card
   added-card = withMessage c t bytes
@@ -178,7 +178,7 @@ module _ (c : Card) (slots : List ℕ) (b : Book) (r : CardFor c slots b) (s : S
   new-terms =
       rw here (record {
         countIs = terms-for .countIs;
-        targetIs = terms-for .targetIs;
+        addressIs = terms-for .addressIs;
         valueIs = terms-for .valueIs;
         addedIs = ap suc (terms-for .addedIs) ∙ sym count-more;
         latestIs = λ p. latest-now;

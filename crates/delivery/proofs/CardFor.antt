@@ -26,8 +26,8 @@ use lib.Dec.{ltb, lit<}
 use lib.ListN.{length, getD, take, length-set, length-append, List·getD-append}
 use lib.Seq.{getD-append-seam}
 use Rattle.seq.specs.Ring.{frameSpace, transSpace, advance}
-use Rattle.marks.specs.Marks.{mark}
-use Rattle.marks.proofs.Marks.{leading-le, leading-holds, leading-stops, leading-is}
+use Rattle.bitmap.specs.Marks.{mark}
+use Rattle.bitmap.proofs.Marks.{leading-le, leading-holds, leading-stops, leading-is}
 use Rattle.wire.specs.Format.{needed}
 use Rattle.wire.specs.Writing.{frameOf}
 use Rattle.wire.proofs.Format.{needed-pos}
@@ -84,8 +84,8 @@ pub record LatestIn (x : ℕ) (b : Book) (i : ℕ) : Type 0 where
 
 pub record TermsFor (t : Sending) (b : Book) (i : ℕ) : Type 0 where
   pub countIs : t .count ≡ transactionAt b i .count
-  pub targetIs : t .target ≡ transactionAt b i .target
-  pub valueIs : t .value ≡ transactionAt b i .value
+  pub addressIs : t .address ≡ transactionAt b i .completionAddress
+  pub valueIs : t .value ≡ transactionAt b i .completionValue
   pub addedIs : t .added ≡ inAll b i
   pub latestIs : 0 < inAll b i → LatestIn (t .latest .0) b i
 
@@ -153,7 +153,7 @@ pub terms-same : (t t′ : Sending) (b b′ : Book) (i : ℕ) → t′ ≡ t →
 terms-same t t′ b b′ i e d n l f =
     record {
       countIs = rw (e, d) (f .countIs);
-      targetIs = rw (e, d) (f .targetIs);
+      addressIs = rw (e, d) (f .addressIs);
       valueIs = rw (e, d) (f .valueIs);
       addedIs = rw (e, n) (f .addedIs);
       latestIs = λ p. rw e (l (f .latestIs (rw n at p)));
@@ -214,9 +214,9 @@ map-known ds d (e ∷ es) h = λ i. wiredSame i ∷ map-known ds d es (λ x m. h
     wiredSame : wired (ds ++ (d ∷ [])) e ≡ wired ds e
     wiredSame = rw same
 
-module _ (c : Card) (slots : List ℕ) (b : Book) (r : CardFor c slots b) (s : Sound b) (terms target value : ℕ) where
+module _ (c : Card) (slots : List ℕ) (b : Book) (r : CardFor c slots b) (s : Sound b) (terms address value : ℕ) where
   pub open-refused : ltb (opened (c .sendings)) 32 ≡ false
-      → openTransaction c terms target value ≡ record { card = c; refusal = 20; trans = record { 0 = 0 } }
+      → openTransaction c terms address value ≡ record { card = c; refusal = 20; trans = record { 0 = 0 } }
   unfolding openTransaction openingRefusal
   open-refused q = rw q
 
@@ -229,10 +229,10 @@ module _ (c : Card) (slots : List ℕ) (b : Book) (r : CardFor c slots b) (s : S
       used = c .used;
       last = c .last;
       window = c .window;
-      sendings = opening (c .sendings) terms target value;
+      sendings = opening (c .sendings) terms address value;
     }
 
-    pub open-done : openTransaction c terms target value
+    pub open-done : openTransaction c terms address value
         ≡ record { card = opened-card; refusal = 0; trans = c .sendings .next }
     unfolding openTransaction openingRefusal
     open-done = rw ok
@@ -245,13 +245,13 @@ module _ (c : Card) (slots : List ℕ) (b : Book) (r : CardFor c slots b) (s : S
         omega (arith, low-most c slots b r s, ltb-true (opened (c .sendings)) 32 ok, opened-is c slots b r s)
 
     abbrev b′ : Book
-    b′ = enterOpening b terms target value
+    b′ = enterOpening b terms address value
 
     abbrev new : Transaction
-    new = newTransaction b terms target value
+    new = newTransaction b terms address value
 
     abbrev newSending : Sending
-    newSending = record { target = target; value = value; count = terms; added = 0; latest = record { 0 = 0 } }
+    newSending = record { address = address; value = value; count = terms; added = 0; latest = record { 0 = 0 } }
 
     old-transaction : (i : ℕ) → i < total → transactionAt b′ i ≡ transactionAt b i
     unfolding enterOpening
@@ -314,8 +314,8 @@ module _ (c : Card) (slots : List ℕ) (b : Book) (r : CardFor c slots b) (s : S
     new-terms =
         rw here (record {
           countIs = sym (ap (λ (d : Transaction). d .count) new-transaction);
-          targetIs = sym (ap (λ (d : Transaction). d .target) new-transaction);
-          valueIs = sym (ap (λ (d : Transaction). d .value) new-transaction);
+          addressIs = sym (ap (λ (d : Transaction). d .completionAddress) new-transaction);
+          valueIs = sym (ap (λ (d : Transaction). d .completionValue) new-transaction);
           addedIs = sym none-yet;
           latestIs = λ p. absurd (omega (arith, none-yet));
         })

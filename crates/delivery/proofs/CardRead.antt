@@ -12,8 +12,8 @@ use borrow.Author.Tests.{lt-ltb, le-ltb, le-leb, lt-leb, leb-true}
 use lib.Dec.{ltb, leb}
 use lib.ListN.{length, take, List·getD-eq-default}
 use Rattle.seq.specs.Ring.{frameSpace, transSpace}
-use Rattle.marks.specs.Marks.{mark, leading}
-use Rattle.marks.proofs.Marks.{leading-le, leading-holds, leading-mono}
+use Rattle.bitmap.specs.Marks.{mark, leading}
+use Rattle.bitmap.proofs.Marks.{leading-le, leading-holds, leading-mono}
 use Rattle.wire.specs.Format.{needed}
 use Rattle.wire.proofs.Format.{needed-pos}
 use Rattle.send_window.specs.declared.SendWindow.{SendWindow}

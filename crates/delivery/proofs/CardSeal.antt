@@ -12,8 +12,8 @@ use lib.Dec.{eqb, ltb, lit<}
 use lib.ListN.{length, getD, set, take, length-set, length-append, List·getD-append, List·getD-eq-default}
 use lib.Seq.{getD-append-seam, take-append-le, take-all}
 use Rattle.seq.specs.Ring.{frameSpace, advance}
-use Rattle.marks.specs.Marks.{mark, leading}
-use Rattle.marks.proofs.Marks.{leading-holds, leading-stops, leading-is, leading-same}
+use Rattle.bitmap.specs.Marks.{mark, leading}
+use Rattle.bitmap.proofs.Marks.{leading-holds, leading-stops, leading-is, leading-same}
 use Rattle.send_window.specs.Window.{unreleased, held, beforeHeld, oldestHeld, sealing}
 use Rattle.send_window.proofs.Window.{held-is, none-before-held, oldest-base}
 use Rattle.sendings.specs.Sendings.{sendingAt}

@@ -105,26 +105,26 @@ module _ (cardId hostId : ℕ) (cardFits : cardId < frameSpace) (hostFits : host
 
   -- ---- opening
 
-  pub step-opens : (count target value : ℕ) → typed (opens count target value) ≡ true → Keeps (opens count target value)
+  pub step-opens : (count address value : ℕ) → typed (opens count address value) ≡ true → Keeps (opens count address value)
   unfolding step enter byCard typed
-  step-opens count target value t = go (ltb (opened (c .sendings)) 32) refl
+  step-opens count address value t = go (ltb (opened (c .sendings)) 32) refl
     where
-      fit : (count < frameSpace) × (target < transSpace) × (value < transSpace)
+      fit : (count < frameSpace) × (address < transSpace) × (value < transSpace)
       fit =
-          let all = and-eq-true-iff (ltb count 65536) (ltb target transSpace && ltb value transSpace) .0 t in
-          let rest = and-eq-true-iff (ltb target transSpace) (ltb value transSpace) .0 (all .1) in
-          (ltb-true count 65536 (all .0), ltb-true target transSpace (rest .0), ltb-true value transSpace (rest .1))
+          let all = and-eq-true-iff (ltb count 65536) (ltb address transSpace && ltb value transSpace) .0 t in
+          let rest = and-eq-true-iff (ltb address transSpace) (ltb value transSpace) .0 (all .1) in
+          (ltb-true count 65536 (all .0), ltb-true address transSpace (rest .0), ltb-true value transSpace (rest .1))
 
-      go : (y : Bool) → ltb (opened (c .sendings)) 32 ≡ y → Keeps (opens count target value)
+      go : (y : Bool) → ltb (opened (c .sendings)) 32 ≡ y → Keeps (opens count address value)
       go true q =
-          rw (open-done c slots b (f .cardFor) (f .sound) count target value q)
-          (after-card cardId hostId w (enterOpening b count target value) _ slots
-          (card-opened c slots b (f .cardFor) (f .sound) count target value q) (f .cardOwn) (f .cardPeer)
-          (rest-opening cardId hostId b (f .sound) count target value (w .host) (w .memory) (w .handOuts) (w .acks)
+          rw (open-done c slots b (f .cardFor) (f .sound) count address value q)
+          (after-card cardId hostId w (enterOpening b count address value) _ slots
+          (card-opened c slots b (f .cardFor) (f .sound) count address value q) (f .cardOwn) (f .cardPeer)
+          (rest-opening cardId hostId b (f .sound) count address value (w .host) (w .memory) (w .handOuts) (w .acks)
           (w .answers) fit (f .rest))
-          (sound-opening b (f .sound) count target value
-          (open-room c slots b (f .cardFor) (f .sound) count target value q)))
-      go false q = rw (open-refused c slots b (f .cardFor) (f .sound) count target value q) stays
+          (sound-opening b (f .sound) count address value
+          (open-room c slots b (f .cardFor) (f .sound) count address value q)))
+      go false q = rw (open-refused c slots b (f .cardFor) (f .sound) count address value q) stays
 
   -- ---- adding
 

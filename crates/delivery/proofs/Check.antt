@@ -97,10 +97,10 @@ noByteTwice-by (w ∷ ws) e =
 
 module _ (b : Book) where
   abbrev pub dataIn : MessageRecord → Bool
-  dataIn e = leb (e .at + length (e .bytes)) (length (b .start))
+  dataIn e = leb (e .dataAddress + length (e .bytes)) (length (b .start))
 
   abbrev pub completionIn : Transaction → Bool
-  completionIn d = leb (d .target + 4) (length (b .start))
+  completionIn d = leb (d .completionAddress + 4) (length (b .start))
 
   -- transaction j against those that were unfinished when it was opened
   abbrev pub apartAt : ℕ → Bool

@@ -1,7 +1,7 @@
 -- One name that unfolds every definition that a list of calls runs through: `unfolding computing` lets the checker run the list.
 -- Assumes nothing.
 use Rattle.seq.specs.Ring.{distance, advance, latest}
-use Rattle.marks.specs.Marks.{mark, withMark, leading, leadingOnes, marksOf}
+use Rattle.bitmap.specs.Marks.{mark, withMark, leading, trailingOnes, marksOf}
 use Rattle.octets.specs.Octets.{little, value, field, inside, written}
 use Rattle.wire.specs.Format.{headOf, needed, nextHeader}
 use Rattle.wire.specs.Reading.{addressed, follows, messageAt, messagesFrom, headingOf, readFrame}
@@ -96,7 +96,7 @@ use Rattle.delivery.specs.Demand3.{
 use Rattle.delivery.proofs.Check.{every, below, apart, noByteTwice, writesAllowed, passes}
 
 unfoldable pub computing : Unit {0}
-unfolding distance advance latest mark withMark leading leadingOnes marksOf little value field inside written headOf
+unfolding distance advance latest mark withMark leading trailingOnes marksOf little value field inside written headOf
     needed nextHeader addressed follows messageAt messagesFrom headingOf readFrame frameHead messageHead laid frameOf ackFrame
     roomFor firstMessage nextMessage agrees termsRefusal addressRefusal fills refusing closing holding verdictOf
     verdict after fresh openedOf effect takeIn takeAll accepting byNumber receiveOf acknowledgementOf emptyWindow held

@@ -9,8 +9,8 @@ use mathlib.Core.List.{List, [], _∷_, List·Memᴰ·not-nil}
 use lib.Dec.{eqb, lit<}
 use lib.ListN.{length, length-replicate, getD-replicate}
 use Rattle.seq.specs.Ring.{frameSpace}
-use Rattle.marks.specs.Marks.{leading}
-use Rattle.marks.proofs.Marks.{mark-of-zero, leading-le}
+use Rattle.bitmap.specs.Marks.{leading}
+use Rattle.bitmap.proofs.Marks.{mark-of-zero, leading-le}
 use Rattle.terms.specs.Terms.{free}
 use Rattle.host.specs.declared.Opened.{Opened}
 use Rattle.host.specs.Host.{fresh, openedOf}
@@ -78,7 +78,7 @@ use Rattle.delivery.proofs.Receive.{step-receives}
 -- an observation tells its own call
 pub seen-event : (e : Implementation) (w : System) (x : Event) → step e w x .observation .event ≡ x
 unfolding step byCard byHost
-seen-event e w (opens count target value) = refl
+seen-event e w (opens count address value) = refl
 seen-event e w (adds t at bytes) = refl
 seen-event e w seals = refl
 seen-event e w (reads k) = refl
@@ -98,7 +98,7 @@ module _ (cardId hostId : ℕ) (cardFits : cardId < frameSpace) (hostFits : host
       → WritesAllowed (bookStep b (step e w x .observation)) → For (step e w x .system) (bookStep b (step e w x .observation))
 
   pub step-any : Keeps specified
-  step-any w b f (opens count target value) t i k = step-opens cardId hostId cardFits hostFits w b f count target value t
+  step-any w b f (opens count address value) t i k = step-opens cardId hostId cardFits hostFits w b f count address value t
   step-any w b f (adds n at bytes) t i k = step-adds cardId hostId cardFits hostFits w b f n at bytes t
   step-any w b f seals t i k = step-seals cardId hostId cardFits hostFits w b f
   step-any w b f (reads n) t i k = step-reads cardId hostId cardFits hostFits w b f n i

@@ -12,7 +12,7 @@ use lib.Dec.{lit<}
 use lib.ListN.{length, getD, getElem?}
 use Rattle.seq.specs.Ring.{frameSpace, transSpace}
 use Rattle.seq.proofs.Ring.{latest-is}
-use Rattle.marks.proofs.Marks.{leading-fails}
+use Rattle.bitmap.proofs.Marks.{leading-fails}
 use Rattle.wire.specs.Format.{needed}
 use Rattle.card.specs.declared.Card.{Card}
 use Rattle.delivery.specs.Book.{
@@ -60,10 +60,10 @@ module _ (cardId hostId : ℕ) (cardFits : cardId < frameSpace) (hostFits : host
   abbrev slots : List ℕ
   slots = w .slots
 
-  pub opening-entered : (count target value : ℕ) → length (b .transactions) < 32
-      → bookStep b (step specified w (opens count target value) .observation) ≡ enterOpening b count target value
+  pub opening-entered : (count address value : ℕ) → length (b .transactions) < 32
+      → bookStep b (step specified w (opens count address value) .observation) ≡ enterOpening b count address value
   unfolding step byCard enter
-  opening-entered count target value few = rw (opens-unrefused cardId hostId w b f count target value (omega arith))
+  opening-entered count address value few = rw (opens-unrefused cardId hostId w b f count address value (omega arith))
 
   -- a message of no bytes as the first of a frame, of a transaction that takes more
   pub adding-entered : (t : ℕ) → t < length (b .transactions) → t < transSpace

@@ -214,7 +214,7 @@ unfolding step enter byCard byHost acksFor initial
 adds-nothing = demand3-by addsNothing starts keeps
   where
     keeps : (cardId hostId : ℕ) (p : cardId < frameSpace) (q : hostId < frameSpace) → Keeps cardId hostId p q addsNothing
-    keeps c h p q w b f (opens count target value) t i k = step-any c h p q w b f (opens count target value) t i k
+    keeps c h p q w b f (opens count address value) t i k = step-any c h p q w b f (opens count address value) t i k
     keeps c h p q w b f (adds n at bytes) t i k = stays c h p q w b f
     keeps c h p q w b f seals t i k = step-any c h p q w b f seals t i k
     keeps c h p q w b f (reads n) t i k = step-any c h p q w b f (reads n) t i k

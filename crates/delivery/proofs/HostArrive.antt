@@ -12,8 +12,8 @@ use lib.ListN.{length, getD, List·getD-eq-default}
 use lib.Seq.{sets, length-sets}
 use Rattle.seq.specs.Ring.{distance, advance, frameSpace}
 use Rattle.seq.proofs.Ring.{host-late, host-window}
-use Rattle.marks.specs.Marks.{mark, withMark, leading, leadingOnes}
-use Rattle.marks.proofs.Marks.{leading-le, leading-holds, mark-same, mark-other, window-moves, window-marks}
+use Rattle.bitmap.specs.Marks.{mark, withMark, leading, trailingOnes}
+use Rattle.bitmap.proofs.Marks.{leading-le, leading-holds, mark-same, mark-other, window-moves, window-marks}
 use Rattle.wire.specs.Format.{Message}
 use Rattle.host.specs.declared.Pair.{Pair}
 use Rattle.host.specs.declared.Answer.{Answer}
@@ -167,7 +167,7 @@ module _ (h : Pair) (b : Book) (r : HostFor h b) (s : Sound b) (c : ℕ) (inside
     low-le : lo ≤ length (b .frames)
     low-le = leading-le (λ k. frameAt b k .accepted) (length (b .frames))
 
-    low-moves : lowestNotAccepted (enterArrival b c) ≡ lo + leadingOnes 64 marked
+    low-moves : lowestNotAccepted (enterArrival b c) ≡ lo + trailingOnes 64 marked
     unfolding accepted′
     low-moves =
         ap (leading accepted′) length-same
@@ -178,8 +178,8 @@ module _ (h : Pair) (b : Book) (r : HostFor h b) (s : Sound b) (c : ℕ) (inside
     unfolding accepting advance marked accepted′
     host-accepting t lf = record {
       nextIs =
-          ap (λ (n : ℕ). (n + leadingOnes 64 marked) % frameSpace) (r .nextIs)
-          ∙ mod-add-mod lo frameSpace (leadingOnes 64 marked) ∙ ap (λ (n : ℕ). n % frameSpace) (sym low-moves);
+          ap (λ (n : ℕ). (n + trailingOnes 64 marked) % frameSpace) (r .nextIs)
+          ∙ mod-add-mod lo frameSpace (trailingOnes 64 marked) ∙ ap (λ (n : ℕ). n % frameSpace) (sym low-moves);
       marksAre = λ i.
           window-marks accepted′ (length (b .frames)) lo 64 marked low-le fits64 below′ marked-is beyond′ i
           ∙ ap (λ (n : ℕ). accepted′ (leading accepted′ n + i)) (sym length-same);
@@ -247,13 +247,13 @@ module _ (h : Pair) (b : Book) (r : HostFor h b) (s : Sound b) (c : ℕ) (kept :
       go (e ∷ xs) m =
           let me : List·Memᴰ e (addedMessages b) = m e (List·Memᴰ·head refl) in
           let st : length (enterArrival b c .start) ≡ length (b .start) = ap length (start-arriving b c) in
-          let a : e .at + length (e .bytes) ≤ length (enterArrival b c .start) =
+          let a : e .dataAddress + length (e .bytes) ≤ length (enterArrival b c .start) =
           kept .dataInside e (subst (List·Memᴰ e) (sym (added-arriving b c)) me) in
-          let d : transactionAt b (e .trans) .target + 4 ≤ length (enterArrival b c .start) =
+          let d : transactionAt b (e .trans) .completionAddress + 4 ≤ length (enterArrival b c .start) =
           kept .completionInside (transactionAt b (e .trans))
           (subst (List·Memᴰ (transactionAt b (e .trans))) (sym (transactions-arriving b c))
           (getD-mem (b .transactions) (e .trans) noTransaction (s .known e me))) in (
-            record { bare = s .bare e me; dataIn = omega (arith, size-memory b); targetIn = omega (arith, size-memory b) },
+            record { bare = s .bare e me; dataIn = omega (arith, size-memory b); completionIn = omega (arith, size-memory b) },
             go xs (λ x k. m x (List·Memᴰ·tail k)),
           )
 

@@ -8,7 +8,7 @@ use mathlib.Core.Bool.{Bool, true, false, cond}
 use mathlib.Core.List.{List, [], _∷_, _++_, append-assoc, map}
 use lib.ListN.{length, getD, length-append}
 use lib.Seq.{sets, length-sets}
-use Rattle.marks.proofs.Marks.{leading-mono}
+use Rattle.bitmap.proofs.Marks.{leading-mono}
 use Rattle.octets.specs.Octets.{little}
 use Rattle.octets.proofs.Octets.{length-little, written-inside}
 use Rattle.wire.specs.Format.{headOf}
@@ -45,8 +45,8 @@ use Rattle.delivery.proofs.HostStep.{
 -- What a message writes lies inside, and a bare message is bare.
 pub record InsideOne (ds : List Transaction) (size : ℕ) (e : MessageRecord) : Type 0 where
   pub bare : getD ds (e .trans) noTransaction .count ≡ 0 → e .bytes ≡ []
-  pub dataIn : e .at + length (e .bytes) ≤ size
-  pub targetIn : getD ds (e .trans) noTransaction .target + 4 ≤ size
+  pub dataIn : e .dataAddress + length (e .bytes) ≤ size
+  pub completionIn : getD ds (e .trans) noTransaction .completionAddress + 4 ≤ size
 
 abbrev pub Inside : List Transaction → ℕ → List MessageRecord → Type 0
 Inside ds size [] = Unit {0}
@@ -92,9 +92,9 @@ count-others pre e post i n = ap length (ofTransaction-other i pre e post n)
 size-taken : (b : Bool) (d : Transaction) (e : MessageRecord) (m : List ℕ) → length (taken b d e m) ≡ length m
 unfolding taken
 size-taken true d e m =
-    length-sets (sets m (e .at) (e .bytes)) (completionWrite d .at) (completionWrite d .bytes)
-    ∙ length-sets m (e .at) (e .bytes)
-size-taken false d e m = length-sets m (e .at) (e .bytes)
+    length-sets (sets m (e .dataAddress) (e .bytes)) (completionWrite d .at) (completionWrite d .bytes)
+    ∙ length-sets m (e .dataAddress) (e .bytes)
+size-taken false d e m = length-sets m (e .dataAddress) (e .bytes)
 
 low-mono : (ds : List Transaction) (es fs : List MessageRecord) → ((i : ℕ) → count i es ≤ count i fs) → low ds es ≤ low ds fs
 low-mono ds es fs h =
@@ -105,12 +105,12 @@ low-mono ds es fs h =
 effect-is : (ds : List Transaction) (e : MessageRecord) (m : List ℕ) (done : Bool) → InsideOne ds (length m) e
     → effect m (wired ds e) done ≡ taken done (getD ds (e .trans) noTransaction) e m
 unfolding effect taken completionWrite
-effect-is ds e m false i = written-inside m (e .at) (e .bytes) (i .dataIn)
+effect-is ds e m false i = written-inside m (e .dataAddress) (e .bytes) (i .dataIn)
 effect-is ds e m true i =
     let d = getD ds (e .trans) noTransaction in
-    rw (written-inside m (e .at) (e .bytes) (i .dataIn))
-    (written-inside (sets m (e .at) (e .bytes)) (d .target) (little 4 (d .value))
-    (omega (arith, i .targetIn, length-sets m (e .at) (e .bytes), length-little 4 (d .value))))
+    rw (written-inside m (e .dataAddress) (e .bytes) (i .dataIn))
+    (written-inside (sets m (e .dataAddress) (e .bytes)) (d .completionAddress) (little 4 (d .completionValue))
+    (omega (arith, i .completionIn, length-sets m (e .dataAddress) (e .bytes), length-little 4 (d .completionValue))))
 
 -- one message
 module _ (ds : List Transaction) (pre : List MessageRecord) (e : MessageRecord) (post : List MessageRecord) (t : Tally)
@@ -141,7 +141,7 @@ module _ (ds : List Transaction) (pre : List MessageRecord) (e : MessageRecord) 
       (holding (l .lowest) (l .closed) was (headOf (wired ds e)))
   v-is =
       verdict-is l ds (pre ++ post) r e fit isKnown notFull (length (t .memory)) (inside .bare) (inside .dataIn)
-      (inside .targetIn)
+      (inside .completionIn)
       ∙ rw (fills-is l ds (pre ++ post) (pre ++ (e ∷ post)) r e fit isKnown notFull one (count-others pre e post) beyond)
 
   -- with a verdict that says whether the transaction is complete

@@ -14,8 +14,8 @@ use lib.ListN.{length, getD, set, length-set}
 use lib.Seq.{getD-set-same, getD-set-other}
 use Rattle.seq.specs.Ring.{distance, advance, transSpace}
 use Rattle.seq.proofs.Ring.{distance-ahead, same-count}
-use Rattle.marks.specs.Marks.{mark, withMark, leading, leadingOnes}
-use Rattle.marks.proofs.Marks.{
+use Rattle.bitmap.specs.Marks.{mark, withMark, leading, trailingOnes}
+use Rattle.bitmap.proofs.Marks.{
   leading-le,
   leading-holds,
   leading-stops,
@@ -43,7 +43,7 @@ low ds es = leading (fullAt ds es) (length ds)
 
 -- A transaction of which n messages were received, as the host's table holds it.
 abbrev pub underway : Transaction → ℕ → Open
-underway d n = record { count = d .count; target = d .target; value = d .value; received = n }
+underway d n = record { count = d .count; address = d .completionAddress; value = d .completionValue; received = n }
 
 -- What the place of transaction i holds.
 unfoldable pub place : List Transaction → List MessageRecord → ℕ → Open
@@ -62,10 +62,10 @@ wired ds e =
     let d = getD ds (e .trans) noTransaction in
     record {
       trans = e .trans % transSpace;
-      target = d .target;
-      value = d .value;
+      completionAddress = d .completionAddress;
+      completionValue = d .completionValue;
       count = d .count;
-      at = e .at;
+      dataAddress = e .dataAddress;
       bytes = e .bytes;
     }
 
@@ -121,10 +121,10 @@ module _ (l : Transactions) (ds : List Transaction) (es : List MessageRecord) (r
           → agrees (cond b free (underway d (count (e .trans) es))) (headOf (wired ds e)) ≡ true
       go true q = refl
       go false q =
-          rw (q, eq-eqb (d .count) (d .count) refl, eq-eqb (d .target) (d .target) refl, eq-eqb (d .value) (d .value) refl)
+          rw (q, eq-eqb (d .count) (d .count) refl, eq-eqb (d .completionAddress) (d .completionAddress) refl, eq-eqb (d .completionValue) (d .completionValue) refl)
 
-  module _ (size : ℕ) (bare : d .count ≡ 0 → e .bytes ≡ []) (dataIn : e .at + length (e .bytes) ≤ size)
-      (targetIn : d .target + 4 ≤ size) where
+  module _ (size : ℕ) (bare : d .count ≡ 0 → e .bytes ≡ []) (dataIn : e .dataAddress + length (e .bytes) ≤ size)
+      (completionIn : d .completionAddress + 4 ≤ size) where
     terms-fine : termsRefusal gap (l .closed) inTable (headOf (wired ds e)) (length (e .bytes)) ≡ 0
     unfolding termsRefusal headOf
     terms-fine = rw (lt-leb 32 gap near, isClear, agrees-so, go (eqb (d .count) 0) refl)
@@ -135,7 +135,7 @@ module _ (l : Transactions) (ds : List Transaction) (es : List MessageRecord) (r
 
     addresses-fine : addressRefusal size (headOf (wired ds e)) (length (e .bytes)) ≡ 0
     unfolding addressRefusal headOf
-    addresses-fine = rw (le-ltb size (e .at + length (e .bytes)) dataIn, le-ltb size (d .target + 4) targetIn)
+    addresses-fine = rw (le-ltb size (e .dataAddress + length (e .bytes)) dataIn, le-ltb size (d .completionAddress + 4) completionIn)
 
     -- the message is not refused: it closes its transaction, or the transaction is held with one message more
     pub verdict-is : verdict l size (wired ds e)
@@ -247,7 +247,7 @@ module _ (l : Transactions) (ds : List Transaction) (es es′ : List MessageReco
     marked = withMark 32 (l .closed) dist
 
     run : ℕ
-    run = leadingOnes 32 marked
+    run = trailingOnes 32 marked
 
     marked-is : (i : ℕ) → mark marked i ≡ fullAt ds es′ (low ds es + i)
     unfolding marked
@@ -300,7 +300,7 @@ module _ (l : Transactions) (ds : List Transaction) (es es′ : List MessageReco
     -- a place of the window moved: one of the old window, or that of a transaction passed, which is free
     place-new : (i : ℕ) → low ds es + run ≤ i → i < low ds es + run + 32 → Dec (i < low ds es + 32)
         → getD (set (l .table) k free) (i % 32) free ≡ place ds es′ i
-    unfolding run leadingOnes
+    unfolding run trailingOnes
     place-new i a b (yes h) = place-old i (omega arith) h (ℕ-discrete (e .trans) i)
     place-new i a b (no h) =
         let z : i % 32 ≡ (i - 32) % 32 = omega arith in

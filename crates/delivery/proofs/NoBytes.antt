@@ -58,18 +58,18 @@ from-data : (w : Write) (es : List MessageRecord) → NoBytes es → (vs : List 
     → ApartFrom w (dataWrites es ++ vs)
 unfolding dataWrites
 from-data w [] n vs k = k
-from-data w (e ∷ es) n vs k = (apart-right w (record { at = e .at; bytes = e .bytes }) (n .0), from-data w es (n .1) vs k)
+from-data w (e ∷ es) n vs k = (apart-right w (record { at = e .dataAddress; bytes = e .bytes }) (n .0), from-data w es (n .1) vs k)
 
 data-once : (es : List MessageRecord) → NoBytes es → (vs : List Write) → NoByteTwice vs → NoByteTwice (dataWrites es ++ vs)
 unfolding dataWrites
 data-once [] n vs k = k
 data-once (e ∷ es) n vs k =
-    (from-all (record { at = e .at; bytes = e .bytes }) (n .0) (dataWrites es ++ vs), data-once es (n .1) vs k)
+    (from-all (record { at = e .dataAddress; bytes = e .bytes }) (n .0) (dataWrites es ++ vs), data-once es (n .1) vs k)
 
 data-apart : (es : List MessageRecord) → NoBytes es → (ws vs : List Write) → AllApart ws vs → AllApart (dataWrites es ++ ws) vs
 unfolding dataWrites
 data-apart [] n ws vs k = k
-data-apart (e ∷ es) n ws vs k = (from-all (record { at = e .at; bytes = e .bytes }) (n .0) vs, data-apart es (n .1) ws vs k)
+data-apart (e ∷ es) n ws vs k = (from-all (record { at = e .dataAddress; bytes = e .bytes }) (n .0) vs, data-apart es (n .1) ws vs k)
 
 -- completions, due or not
 abbrev due : Transaction → Bool → List Write
@@ -79,15 +79,15 @@ due-once : (d : Transaction) (x : Bool) → NoByteTwice (due d x)
 due-once d true = (tt, tt)
 due-once d false = tt
 
-due-from : (d d′ : Transaction) → d .target + 4 ≤ d′ .target → (y : Bool) → ApartFrom (completionWrite d) (due d′ y)
+due-from : (d d′ : Transaction) → d .completionAddress + 4 ≤ d′ .completionAddress → (y : Bool) → ApartFrom (completionWrite d) (due d′ y)
 unfolding completionWrite Apart little
 due-from d d′ h true = ((λ x p q. omega arith), tt)
 due-from d d′ h false = tt
 
 module _ (b : Book) (empty : (e : MessageRecord) → List·Memᴰ e (addedMessages b) → e .bytes ≡ [])
-    (inMemory : (e : MessageRecord) → List·Memᴰ e (addedMessages b) → e .at ≤ length (b .start))
-    (completionIn : (d : Transaction) → List·Memᴰ d (b .transactions) → d .target + 4 ≤ length (b .start))
-    (inTurn : (i j : ℕ) → i < j → j < length (b .transactions) → transactionAt b i .target + 4 ≤ transactionAt b j .target) where
+    (inMemory : (e : MessageRecord) → List·Memᴰ e (addedMessages b) → e .dataAddress ≤ length (b .start))
+    (completionIn : (d : Transaction) → List·Memᴰ d (b .transactions) → d .completionAddress + 4 ≤ length (b .start))
+    (inTurn : (i j : ℕ) → i < j → j < length (b .transactions) → transactionAt b i .completionAddress + 4 ≤ transactionAt b j .completionAddress) where
   data-of : (i : ℕ) → NoBytes (ofTransaction i (acceptedMessages b))
   data-of i =
       no-bytes i (acceptedMessages b)

@@ -16,7 +16,7 @@ use lib.Dec.{leb, ltb, lit<}
 use lib.ListN.{length, getD, getElem?, length-append}
 use Rattle.seq.specs.Ring.{distance, latest, frameSpace, transSpace}
 use Rattle.seq.proofs.Ring.{distance-ahead}
-use Rattle.marks.specs.Marks.{leading}
+use Rattle.bitmap.specs.Marks.{leading}
 use Rattle.wire.specs.Format.{Message, needed}
 use Rattle.wire.specs.Reading.{number, flags, addressed, good, readFrame}
 use Rattle.wire.specs.Writing.{frameOf}

@@ -257,7 +257,7 @@ module _ (cardId hostId : ℕ) (cardFits : cardId < frameSpace) (hostFits : host
         let t : MessageTyped e = f .rest .messagesTyped e me in (
           record {
             trans-fits = mod-lt (e .trans) (lit< tt);
-            target-fits = d .target-fits;
+            address-fits = d .address-fits;
             value-fits = d .value-fits;
             count-fits = d .count-fits;
             at-fits = t .at-fits;

@@ -24,8 +24,8 @@ use mathlib.Core.Option.{some}
 use lib.ListN.{length, getD, length-append, List·getD-append, List·getD-eq-default}
 use lib.Seq.{getD-append-add}
 use Rattle.seq.specs.Ring.{frameSpace, transSpace}
-use Rattle.marks.specs.Marks.{leading}
-use Rattle.marks.proofs.Marks.{leading-le, leading-holds, leading-stops, leading-is, leading-same}
+use Rattle.bitmap.specs.Marks.{leading}
+use Rattle.bitmap.proofs.Marks.{leading-le, leading-holds, leading-stops, leading-is, leading-same}
 use Rattle.wire.specs.Writing.{frameOf, ackFrame}
 use Rattle.wire.proofs.Format.{needed-pos}
 use Rattle.transactions.specs.Transactions.{Transactions}
@@ -90,11 +90,11 @@ use Rattle.delivery.proofs.CardFor.{framed, map-known}
 -- The numbers of a transaction and of a message fit the fields of a header.
 pub record TermsTyped (d : Transaction) : Type 0 where
   pub count-fits : d .count < frameSpace
-  pub target-fits : d .target < transSpace
-  pub value-fits : d .value < transSpace
+  pub address-fits : d .completionAddress < transSpace
+  pub value-fits : d .completionValue < transSpace
 
 pub record MessageTyped (e : MessageRecord) : Type 0 where
-  pub at-fits : e .at < transSpace
+  pub at-fits : e .dataAddress < transSpace
   pub bytes-fit : length (e .bytes) < frameSpace
 
 module _ (cardId hostId : ℕ) where
@@ -203,9 +203,9 @@ module _ (cardId hostId : ℕ) where
 
   -- ---- opening: one transaction more, with no message
 
-  module _ (b : Book) (s : Sound b) (terms target value : ℕ) where
+  module _ (b : Book) (s : Sound b) (terms address value : ℕ) where
     abbrev new : Transaction
-    new = newTransaction b terms target value
+    new = newTransaction b terms address value
 
     abbrev n : ℕ
     n = length (b .transactions)
@@ -279,7 +279,7 @@ module _ (cardId hostId : ℕ) where
     complete-new [] k q = rw (not-complete k (omega arith)) refl
     complete-new (d ∷ xs) k q = rw (complete-new xs (suc k) (omega arith)) refl
 
-    opening-unnoticed : Unnoticed b (enterOpening b terms target value)
+    opening-unnoticed : Unnoticed b (enterOpening b terms address value)
     unfolding enterOpening bookMemory
     opening-unnoticed = record {
       acceptedSame = λ k. refl;
@@ -298,17 +298,17 @@ module _ (cardId hostId : ℕ) where
     }
 
     pub rest-opening : (h : Pair) (memory : List ℕ) (handOuts acks : List (List ℕ)) (answers : List Answer)
-        → (terms < frameSpace) × (target < transSpace) × (value < transSpace) → Rest h memory handOuts acks answers b
-        → Rest h memory handOuts acks answers (enterOpening b terms target value)
+        → (terms < frameSpace) × (address < transSpace) × (value < transSpace) → Rest h memory handOuts acks answers b
+        → Rest h memory handOuts acks answers (enterOpening b terms address value)
     unfolding enterOpening
     rest-opening h memory handOuts acks answers typed r =
-        rest-alike b (enterOpening b terms target value) s opening-unnoticed h memory handOuts acks answers r
+        rest-alike b (enterOpening b terms address value) s opening-unnoticed h memory handOuts acks answers r
         (λ i l. types i (at-end ds new noTransaction i l)) (r .messagesTyped)
       where
         types : (i : ℕ) → (i < n) ⊎ ((i ≡ n) × (getD ds′ i noTransaction ≡ new)) → TermsTyped (getD ds′ i noTransaction)
         types i (inl p) = rw (List·getD-append ds (new ∷ []) noTransaction i p) (r .termsTyped i p)
         types i (inr q) =
-            rw (q .1) (record { count-fits = typed .0; target-fits = typed .1; value-fits = typed .2 })
+            rw (q .1) (record { count-fits = typed .0; address-fits = typed .1; value-fits = typed .2 })
 
   -- ---- adding
 

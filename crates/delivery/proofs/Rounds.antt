@@ -19,8 +19,8 @@ use mathlib.Core.List.{
 }
 use lib.Dec.{lit≤, lit<}
 use lib.ListN.{length, getD, replicate}
-use Rattle.marks.specs.Marks.{leading}
-use Rattle.marks.proofs.Marks.{leading-is}
+use Rattle.bitmap.specs.Marks.{leading}
+use Rattle.bitmap.proofs.Marks.{leading-is}
 use Rattle.wire.proofs.RoundTrip.{Fits}
 use Rattle.delivery.specs.Book.{
   MessageRecord,
@@ -47,7 +47,7 @@ use Rattle.delivery.proofs.NoBytes.{allowed-without-bytes}
 -- ---- frames that are through, and others behind them
 
 abbrev pub message : ℕ → MessageRecord
-message t = record { trans = t; at = 0; bytes = [] }
+message t = record { trans = t; dataAddress = 0; bytes = [] }
 
 abbrev pub sealedFrame : ℕ → FrameRecord
 sealedFrame t = record { messages = message t ∷ []; acknowledged = false; accepted = false }
@@ -108,10 +108,10 @@ past-leads g pass n fs stop =
 -- ---- the book
 
 abbrev first : Transaction
-first = record { count = 65535; target = 0; value = 0; unfinishedAtOpening = [] }
+first = record { count = 65535; completionAddress = 0; completionValue = 0; unfinishedAtOpening = [] }
 
 abbrev second : Transaction
-second = record { count = 2; target = 4; value = 0; unfinishedAtOpening = 0 ∷ [] }
+second = record { count = 2; completionAddress = 4; completionValue = 0; unfinishedAtOpening = 0 ∷ [] }
 
 abbrev pub transactions : List Transaction
 transactions = first ∷ second ∷ []
@@ -134,7 +134,7 @@ page n fs building handOuts acksDue expected = record {
 pub message-fits : (t : ℕ) → t < 2 → Fits (wired transactions (message t))
 message-fits zero h = record {
   trans-fits = lit< tt;
-  target-fits = lit< tt;
+  address-fits = lit< tt;
   value-fits = lit< tt;
   count-fits = lit< tt;
   at-fits = lit< tt;
@@ -142,7 +142,7 @@ message-fits zero h = record {
 }
 message-fits (suc zero) h = record {
   trans-fits = lit< tt;
-  target-fits = lit< tt;
+  address-fits = lit< tt;
   value-fits = lit< tt;
   count-fits = lit< tt;
   at-fits = lit< tt;
@@ -166,7 +166,7 @@ page-count n fs hs ds ys = rw (append-nil (messagesIn anyFrame (past n fs))) (th
 -- ---- the premise on writes
 
 abbrev Bare : MessageRecord → Type 0
-Bare e = (e .bytes ≡ []) × (e .at ≡ 0)
+Bare e = (e .bytes ≡ []) × (e .dataAddress ≡ 0)
 
 abbrev AllBare : List MessageRecord → Type 0
 AllBare es = (e : MessageRecord) → List·Memᴰ e es → Bare e
@@ -195,16 +195,16 @@ page-allowed n fs h hs ds ys =
     allowed-without-bytes (page n fs [] hs ds ys) (λ e m. through-bare n fs h e m .0)
     (λ e m. rw (through-bare n fs h e m .1) (lit≤ tt)) (λ d m. inside d (List·Memᴰ·cases-cons m)) apart
   where
-    only : (d : Transaction) → (d ≡ second) ⊎ List·Memᴰ d [] → d .target + 4 ≤ 8
+    only : (d : Transaction) → (d ≡ second) ⊎ List·Memᴰ d [] → d .completionAddress + 4 ≤ 8
     only d (inl q) = rw q (lit≤ tt)
     only d (inr m) = absurd (List·Memᴰ·not-nil m)
 
-    inside : (d : Transaction) → (d ≡ first) ⊎ List·Memᴰ d (second ∷ []) → d .target + 4 ≤ 8
+    inside : (d : Transaction) → (d ≡ first) ⊎ List·Memᴰ d (second ∷ []) → d .completionAddress + 4 ≤ 8
     inside d (inl q) = rw q (lit≤ tt)
     inside d (inr m) = only d (List·Memᴰ·cases-cons m)
 
     apart : (i j : ℕ) → i < j → j < 2
-        → transactionAt (page n fs [] hs ds ys) i .target + 4 ≤ transactionAt (page n fs [] hs ds ys) j .target
+        → transactionAt (page n fs [] hs ds ys) i .completionAddress + 4 ≤ transactionAt (page n fs [] hs ds ys) j .completionAddress
     apart zero zero l h = absurd (omega arith)
     apart zero (suc zero) l h = lit≤ tt
     apart (suc i) zero l h = absurd (omega arith)

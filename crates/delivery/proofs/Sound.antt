@@ -6,8 +6,8 @@ use mathlib.Core.Path.{_≡_}
 use mathlib.Core.Bool.{true, false}
 use mathlib.Core.List.{[], List·Memᴰ}
 use lib.ListN.{length}
-use Rattle.marks.specs.Marks.{leading}
-use Rattle.marks.proofs.Marks.{leading-le, leading-holds, leading-mono, leading-fails}
+use Rattle.bitmap.specs.Marks.{leading}
+use Rattle.bitmap.proofs.Marks.{leading-le, leading-holds, leading-mono, leading-fails}
 use Rattle.wire.specs.Format.{needed}
 use Rattle.delivery.specs.Book.{
   Book,

@@ -24,7 +24,7 @@ use mathlib.Core.List.{
 use mathlib.Core.Option.{some}
 use lib.ListN.{length, getD, take, length-append, List·getD-append, List·getD-eq-default}
 use lib.Seq.{getD-append-seam, take-append-le}
-use Rattle.marks.proofs.Marks.{leading-le, leading-mono}
+use Rattle.bitmap.proofs.Marks.{leading-le, leading-mono}
 use Rattle.wire.specs.Format.{needed}
 use Rattle.delivery.specs.Book.{
   newFrame,

@@ -12,7 +12,7 @@ use lib.Dec.{eqb, lit<}
 use lib.ListN.{length}
 use Rattle.seq.specs.Ring.{frameSpace, transSpace, distance, inRange}
 use Rattle.seq.proofs.Ring.{distance-ahead}
-use Rattle.marks.specs.Marks.{mark}
+use Rattle.bitmap.specs.Marks.{mark}
 use Rattle.wire.specs.Format.{needed, nextHeader}
 use Rattle.wire.proofs.Format.{length-frame}
 use Rattle.send_window.specs.Window.{unreleased, held}
@@ -37,10 +37,10 @@ module _ (cardId hostId : ℕ) (w : System) (b : Book) (f : SystemFor cardId hos
   abbrev low : ℕ
   low = lowUnfinished b
 
-  pub opens-unrefused : (count target value : ℕ) → length (b .transactions) < low + 32
-      → openTransaction c count target value .refusal ≡ 0
+  pub opens-unrefused : (count address value : ℕ) → length (b .transactions) < low + 32
+      → openTransaction c count address value .refusal ≡ 0
   unfolding openTransaction openingRefusal
-  opens-unrefused count target value room =
+  opens-unrefused count address value room =
       rw (lt-ltb (opened (c .sendings)) 32
       (omega (arith, opened-is c slots b (f .cardFor) (f .sound), low-most c slots b (f .cardFor) (f .sound))))
 

@@ -91,7 +91,7 @@ ofTransaction-append i (x ∷ xs) ys = go (eqb (x .trans) i) (ofTransaction-appe
 pub dataOf-append : (xs ys : List MessageRecord) → dataWrites (xs ++ ys) ≡ dataWrites xs ++ dataWrites ys
 unfolding dataWrites
 dataOf-append [] ys = refl
-dataOf-append (x ∷ xs) ys = ap {B = List Write} (λ r. record { at = x .at; bytes = x .bytes } ∷ r) (dataOf-append xs ys)
+dataOf-append (x ∷ xs) ys = ap {B = List Write} (λ r. record { at = x .dataAddress; bytes = x .bytes } ∷ r) (dataOf-append xs ys)
 
 pub ofTransaction-cons-other : (i : ℕ) (e : MessageRecord) (es : List MessageRecord) → e .trans ≢ i
     → ofTransaction i (e ∷ es) ≡ ofTransaction i es
@@ -135,7 +135,7 @@ writesFrom-above (d ∷ ds) i pre e post h =
     ∙ ap (λ r. writesOf d i (pre ++ post) ++ r) (writesFrom-above ds (suc i) pre e post (omega arith))
 
 abbrev pub dataWrite : MessageRecord → Write
-dataWrite e = record { at = e .at; bytes = e .bytes }
+dataWrite e = record { at = e .dataAddress; bytes = e .bytes }
 
 -- What memory is after one more message e of a transaction with terms d, from what it was before.
 unfoldable pub taken : Bool → Transaction → MessageRecord → List ℕ → List ℕ

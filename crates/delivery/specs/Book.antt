@@ -8,7 +8,7 @@ use lib.Dec.{eqb, leb}
 use lib.ListN.{length, getD, getElem?, take}
 use lib.Seq.{sets}
 use Rattle.seq.specs.Ring.{latest, frameSpace, transSpace}
-use Rattle.marks.specs.Marks.{leading}
+use Rattle.bitmap.specs.Marks.{leading}
 use Rattle.octets.specs.Octets.{little}
 use Rattle.wire.specs.Format.{needed}
 use Rattle.wire.specs.Reading.{number}
@@ -18,14 +18,14 @@ use Rattle.delivery.specs.System.{Event, opens, adds, seals, reads, show
 -- A message: its transaction, and what it writes.
 pub record MessageRecord : Type 0 where
   pub trans : ℕ
-  pub at : ℕ
+  pub dataAddress : ℕ
   pub bytes : List ℕ
 
 -- A transaction: its terms, and the transactions that were unfinished when it was opened.
 pub record Transaction : Type 0 where
   pub count : ℕ
-  pub target : ℕ
-  pub value : ℕ
+  pub completionAddress : ℕ
+  pub completionValue : ℕ
   pub unfinishedAtOpening : List ℕ
 
 -- A sealed frame: its messages, whether it was acknowledged, whether the host has accepted it: whether a copy has reached it.
@@ -104,7 +104,7 @@ unfoldable pub allMessagesIn : Transaction → ℕ → List MessageRecord → Bo
 allMessagesIn d i es = leb (needed (d .count)) (length (ofTransaction i es))
 
 abbrev pub noTransaction : Transaction
-noTransaction = record { count = 0; target = 0; value = 0; unfinishedAtOpening = [] }
+noTransaction = record { count = 0; completionAddress = 0; completionValue = 0; unfinishedAtOpening = [] }
 
 abbrev pub transactionAt : Book → ℕ → Transaction
 transactionAt b i = getD (b .transactions) i noTransaction
@@ -139,10 +139,10 @@ perform m (w ∷ ws) = perform (sets m (w .at) (w .bytes)) ws
 
 unfoldable pub dataWrites : List MessageRecord → List Write
 dataWrites [] = []
-dataWrites (e ∷ es) = record { at = e .at; bytes = e .bytes } ∷ dataWrites es
+dataWrites (e ∷ es) = record { at = e .dataAddress; bytes = e .bytes } ∷ dataWrites es
 
 unfoldable pub completionWrite : Transaction → Write
-completionWrite d = record { at = d .target; bytes = little 4 (d .value) }
+completionWrite d = record { at = d .completionAddress; bytes = little 4 (d .completionValue) }
 
 -- The writes of transaction i: its data among these messages, and its completion exactly when all its messages are among them.
 unfoldable pub writesOf : Transaction → ℕ → List MessageRecord → List Write
@@ -219,18 +219,18 @@ withTraffic b handOuts acksDue expected = record {
 
 -- A transaction is opened.
 abbrev pub newTransaction : Book → ℕ → ℕ → ℕ → Transaction
-newTransaction b count target value =
-    record { count = count; target = target; value = value; unfinishedAtOpening = unfinished b }
+newTransaction b count address value =
+    record { count = count; completionAddress = address; completionValue = value; unfinishedAtOpening = unfinished b }
 
 unfoldable pub enterOpening : Book → ℕ → ℕ → ℕ → Book
-enterOpening b count target value =
-    withTransactions b (b .transactions ++ (newTransaction b count target value ∷ []))
+enterOpening b count address value =
+    withTransactions b (b .transactions ++ (newTransaction b count address value ∷ []))
 
 -- A message is added to the frame being built: a transaction number means the latest transaction with it.
 unfoldable pub enterMessage : Book → ℕ → ℕ → List ℕ → Book
 enterMessage b n at bytes =
     let i = latest transSpace (length (b .transactions)) n in
-    withFrames b (b .frames) (b .building ++ (record { trans = i; at = at; bytes = bytes } ∷ []))
+    withFrames b (b .frames) (b .building ++ (record { trans = i; dataAddress = at; bytes = bytes } ∷ []))
 
 -- The frame being built is sealed.
 abbrev pub newFrame : Book → FrameRecord
@@ -297,7 +297,7 @@ chosen b wasRefused ack handedOut =
 
 -- Any call. A refused one enters nothing, but that a refused showing or choice hands out nothing.
 unfoldable pub enter : Book → Event → Bool → List ℕ → Book
-enter b (opens count target value) wasRefused handedOut = cond wasRefused b (enterOpening b count target value)
+enter b (opens count address value) wasRefused handedOut = cond wasRefused b (enterOpening b count address value)
 enter b (adds n at bytes) wasRefused handedOut = cond wasRefused b (enterMessage b n at bytes)
 enter b seals wasRefused handedOut = cond wasRefused b (enterSealing b)
 enter b (reads k) wasRefused handedOut = cond wasRefused b (enterAck b (getElem? (b .acksDue) k))

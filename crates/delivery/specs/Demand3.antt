@@ -72,7 +72,7 @@ pub record BothOpen (cardId hostId : ℕ) (card : CardResult) (host : Opened) : 
 
 -- The arguments are of the calls' types: 16-bit and 32-bit numbers. (Bytes may be any.)
 unfoldable pub typed : Event → Bool
-typed (opens count target value) = ltb count 65536 && (ltb target transSpace && ltb value transSpace)
+typed (opens count address value) = ltb count 65536 && (ltb address transSpace && ltb value transSpace)
 typed (adds t at bytes) = ltb t transSpace && ltb at transSpace
 typed seals = true
 typed (reads k) = true
@@ -104,7 +104,7 @@ ackInTime b none = true
 ackInTime b (some c) = leb (releasedCount b) (c + ackLateMost)
 
 unfoldable pub inTime : Book → Event → Bool
-inTime b (opens count target value) = true
+inTime b (opens count address value) = true
 inTime b (adds t at bytes) = true
 inTime b seals = true
 inTime b (reads k) = ackInTime b (getElem? (b .acksDue) k)
@@ -142,8 +142,8 @@ writesMade b i = writesOf (transactionAt b i) i (acceptedMessages b)
 -- What the list has to keep to; b is the book after it.
 pub record WritesAllowed (b : Book) : Type 0 where
   -- every write lies inside memory, also one of no bytes and a completion that is not due yet
-  pub dataInside : (e : MessageRecord) → List·Memᴰ e (addedMessages b) → e .at + length (e .bytes) ≤ length (b .start)
-  pub completionInside : (d : Transaction) → List·Memᴰ d (b .transactions) → d .target + 4 ≤ length (b .start)
+  pub dataInside : (e : MessageRecord) → List·Memᴰ e (addedMessages b) → e .dataAddress + length (e .bytes) ≤ length (b .start)
+  pub completionInside : (d : Transaction) → List·Memᴰ d (b .transactions) → d .completionAddress + 4 ≤ length (b .start)
   -- no transaction writes one byte twice
   pub onceEach : (i : ℕ) → i < length (b .transactions) → NoByteTwice (writesMade b i)
   -- no two that write a common byte are opened and unfinished together: i, opened first, was unfinished when j was opened

@@ -71,7 +71,7 @@ abbrev pub specified : Implementation
 specified = record {
   cardOpening = λ own peer limit slots. stepped (openCard own peer limit slots) slots;
   hostOpening = openedOf;
-  opening = λ c slots count target value. openedTrans (openTransaction c count target value) slots;
+  opening = λ c slots count address value. openedTrans (openTransaction c count address value) slots;
   adding = λ c slots t at bytes. added (addMessage c slots t at bytes);
   sealing = λ c slots. sealedFrame (sealFrame c slots) slots;
   reading = λ c slots f. stepped (readAcks c f) slots;
@@ -155,8 +155,8 @@ byHost e w x r = record {
 }
 
 unfoldable pub step : Implementation → System → Event → StepResult
-step e w (opens count target value) =
-    byCard w (opens count target value) (e .opening (w .card) (w .slots) count target value) []
+step e w (opens count address value) =
+    byCard w (opens count address value) (e .opening (w .card) (w .slots) count address value) []
 step e w (adds t at bytes) = byCard w (adds t at bytes) (e .adding (w .card) (w .slots) t at bytes) []
 step e w seals = byCard w seals (e .sealing (w .card) (w .slots)) []
 step e w (reads k) = byCard w (reads k) (e .reading (w .card) (w .slots) (getD (w .acks) k [])) []

@@ -9,13 +9,13 @@ use native.Mathlib.Decide.{decLe}
 use native.Mathlib.Omega.{arith}
 use borrow.Author.Tests.{le-leb, lt-leb, lt-ltb, le-ltb}
 use lib.ListN.{length, getD}
-use Rattle.marks.specs.Marks.{mark}
+use Rattle.bitmap.specs.Marks.{mark}
 use Rattle.wire.specs.declared.MessageHeader.{MessageHeader}
 use Rattle.wire.specs.Format.{Message, carrying, headOf, nextHeader, frameMost}
 use Rattle.wire.specs.Reading.{dataEnd, messageAt}
-use Rattle.reader.specs.declared.Found.the-variants.{PastEnd}
-use Rattle.reader.specs.Finding.{headAt, foundAt, dataAt}
-use Rattle.reader.proofs.Finding.{IsWhole, is-past, data-whole}
+use Rattle.wire_read.specs.declared.Found.the-variants.{PastEnd}
+use Rattle.wire_read.specs.Finding.{headAt, foundAt, dataAt}
+use Rattle.wire_read.proofs.Finding.{IsWhole, is-past, data-whole}
 use Rattle.host.specs.Host.{effect}
 use Rattle.host.proofs.Receiving.{length-effect}
 use Rattle.depositing.specs.Depositing.{dueAt, writtenFrom, writtenOf}

@@ -5,7 +5,7 @@ use mathlib.Core.Bool.{Bool, cond}
 use mathlib.Core.List.{List}
 use lib.Dec.{leb, ltb}
 use lib.ListN.{length, getD}
-use Rattle.marks.specs.Marks.{mark}
+use Rattle.bitmap.specs.Marks.{mark}
 use Rattle.wire.specs.Format.{nextHeader, frameMost}
 use Rattle.wire.specs.Reading.{dataEnd, messageAt}
 use Rattle.host.specs.Host.{effect}

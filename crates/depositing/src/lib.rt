@@ -1,9 +1,9 @@
 // The second pass over a frame's messages, judged before: the data of each is written, and straight after it the completion where
 // one is due. Assumes nothing: a write that does not fit the memory is none. It promises every byte of the memory
 // (specs/Depositing.antt).
-use marks::word64;
-use reader::Found;
+use bitmap::word64;
 use wire::MessageHeader;
+use wire_read::Found;
 ghost use mathlib.Core.Path.{_≡_};
 ghost use Rattle.wire.specs.Format.{carrying};
 ghost use Rattle.host.specs.Host.{effect};
@@ -13,10 +13,10 @@ ghost use Rattle.depositing.specs.Depositing.{writtenOf};
 fn write_message(memory: &mut [u8], h: MessageHeader, payload: &[u8], done: bool)
     ensures { λ _. ⌜ now (memory .exit) ≡ effect (now (memory .entry)) (carrying h (now (payload .entry))) done ⌝ }
 {
-    octets::write(memory, h.at as usize, payload);
+    octets::write(memory, h.data_address as usize, payload);
     if done {
-        let value = octets::little4(h.value);
-        octets::write(memory, h.target as usize, &value);
+        let value = octets::little4(h.completion_value);
+        octets::write(memory, h.completion_address as usize, &value);
     }
 }
 
@@ -31,7 +31,7 @@ pub fn write_all(f: &[u8], memory: &mut [u8], due: [u64; 6], n: u32)
     let mut at = 10;
     let mut i: u32 = 0;
     while i < n {
-        let found = reader::message_at(f, at);
+        let found = wire_read::message_at(f, at);
         match found {
             Found::PastEnd => {
                 return;
@@ -41,7 +41,7 @@ pub fn write_all(f: &[u8], memory: &mut [u8], due: [u64; 6], n: u32)
                 write_message(
                     memory,
                     h,
-                    reader::data_at(f, at),
+                    wire_read::data_at(f, at),
                     word64::is_marked(due[w], i % 64),
                 );
                 at = next;

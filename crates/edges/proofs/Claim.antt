@@ -3,7 +3,7 @@
 use mathlib.Core.Path.{_≡_, refl}
 use mathlib.Core.List.{map}
 use Rattle.seq.specs.Ring.{distance, advance}
-use Rattle.marks.specs.Marks.{mark, withMark, leading, leadingOnes}
+use Rattle.bitmap.specs.Marks.{mark, withMark, leading, trailingOnes}
 use Rattle.octets.specs.Octets.{little, value, field, inside, written}
 use Rattle.wire.specs.Format.{headOf, needed, nextHeader}
 use Rattle.wire.specs.Reading.{addressed, follows, messageAt, messagesFrom, headingOf, readFrame}
@@ -27,7 +27,7 @@ use Rattle.card.specs.Card.{
 use Rattle.edges.specs.Edges.{Case, added, result, cases}
 
 pub edges-hold : map (λ (c : Case). result (c .edge)) cases ≡ map (λ (c : Case). c .answer) cases
-unfolding distance advance mark withMark leading leadingOnes little value field inside written headOf nextHeader addressed
+unfolding distance advance mark withMark leading trailingOnes little value field inside written headOf nextHeader addressed
     follows messageAt messagesFrom headingOf readFrame frameHead messageHead laid frameOf needed agrees termsRefusal addressRefusal fills
     refusing closing holding verdictOf verdict after effect takeIn takeAll accepting byNumber receiveOf
     emptyWindow noSendings openingRefusal opening takes adding freshCard fits openTransaction addRefusal roomFor firstMessage

@@ -91,9 +91,9 @@ result (adds limit datas) = placed (added limit datas .step)
 -- ---- the frames
 
 -- One message without data, of a transaction of its own: where its completion goes and where its data would.
-abbrev pub bare : (number trans target at : ℕ) → List ℕ
-bare number trans target at =
-    frameOf 1 2 number (record { trans = trans; target = target; value = 0; count = 0; at = at; bytes = [] } ∷ [])
+abbrev pub bare : (number trans address at : ℕ) → List ℕ
+bare number trans address at =
+    frameOf 1 2 number (record { trans = trans; completionAddress = address; completionValue = 0; count = 0; dataAddress = at; bytes = [] } ∷ [])
 
 abbrev pub numbered : ℕ → List ℕ
 numbered n = bare n 0 0 0
@@ -109,10 +109,10 @@ wholeCase =
 abbrev pub wholeMessage : Message
 wholeMessage = record {
   trans = 0;
-  target = 64;
-  value = 287454020;
+  completionAddress = 64;
+  completionValue = 287454020;
   count = 1;
-  at = 0;
+  dataAddress = 0;
   bytes = 10 ∷ 11 ∷ 12 ∷ 13 ∷ [];
 }
 

@@ -1,12 +1,12 @@
 // Which of the card's transactions are finished once frames are released. Assumes nothing of the state, which may be one that no
 // run reaches. It promises sendings/specs/Sendings.antt, finishing.
-use marks::word32;
+use bitmap::word32;
 use sendings::Sending;
 use sendings::Sendings;
 use seq::FrameNo;
 ghost use mathlib.Core.Path.{_≡_};
 ghost use mathlib.Core.Bool.{Bool, true, false};
-ghost use Rattle.marks.specs.Marks.{marksOf};
+ghost use Rattle.bitmap.specs.Marks.{marksOf};
 ghost use Rattle.sendings.specs.Sendings.{delivered, finishedBy, passing, finishing};
 
 // Whether all messages are added and lie in frames before base, where next is the frame being built.
@@ -55,7 +55,7 @@ fn all_finished(s: Sendings, base: FrameNo, next: FrameNo) -> u32
 fn pass(s: Sendings, finished: u32) -> Sendings
     ensures { λ r. ⌜ r ≡ passing s finished ⌝ }
 {
-    let run = word32::leading_ones(finished);
+    let run = word32::trailing_ones(finished);
     let next = s.next;
     let lowest = s.lowest;
     let table = s.table;

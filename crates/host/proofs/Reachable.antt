@@ -12,8 +12,8 @@ use lib.Dec.{eqb, leb}
 use lib.ListN.{length, getD, set, replicate, length-set}
 use lib.Seq.{getD-set-same, getD-set-other}
 use Rattle.seq.specs.Ring.{distance, advance, frameSpace, transSpace}
-use Rattle.marks.specs.Marks.{mark, withMark, leadingOnes}
-use Rattle.marks.proofs.Marks.{
+use Rattle.bitmap.specs.Marks.{mark, withMark, trailingOnes}
+use Rattle.bitmap.proofs.Marks.{
   mark-shift,
   mark-past,
   mark-of-zero,
@@ -124,7 +124,7 @@ module _ (t : Transactions) (s : Orderly t) (i d : ℕ) (near : d < 32) (i-is : 
           rw e (getD-set-same (t .table) i free free in-table)
 
   run : ℕ
-  run = leadingOnes 32 marked
+  run = trailingOnes 32 marked
 
   closing-keeps : Orderly (record {
     lowest = advance transSpace (t .lowest) run;
@@ -201,7 +201,7 @@ verdict-keeps t size m s f e = go (fills o (headOf m)) refl
           some-received = omega arith;
           some-to-come = fills-left o (headOf m) z;
           count-fits = f .count-fits;
-          target-fits = f .target-fits;
+          address-fits = f .address-fits;
           value-fits = f .value-fits;
         }))
 

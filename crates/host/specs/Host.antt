@@ -5,7 +5,7 @@ use mathlib.Core.List.{List, [], _∷_}
 use lib.Dec.{eqb, leb, ltb}
 use lib.ListN.{length, replicate}
 use Rattle.seq.specs.Ring.{distance, advance, frameSpace}
-use Rattle.marks.specs.Marks.{mark, withMark, leadingOnes}
+use Rattle.bitmap.specs.Marks.{mark, withMark, trailingOnes}
 use Rattle.octets.specs.Octets.{little, written}
 use Rattle.wire.specs.Format.{Message}
 use Rattle.wire.specs.Reading.{number, flags, addressed, Read, bad, good, readFrame}
@@ -60,7 +60,7 @@ pub record Tally : Type 0 where
 -- A message's data is written, and straight after it the completion where the message completes its transaction.
 unfoldable pub effect : List ℕ → Message → Bool → List ℕ
 effect memory m done =
-    cond done (written (written memory (m .at) (m .bytes)) (m .target) (little 4 (m .value))) (written memory (m .at) (m .bytes))
+    cond done (written (written memory (m .dataAddress) (m .bytes)) (m .completionAddress) (little 4 (m .completionValue))) (written memory (m .dataAddress) (m .bytes))
 
 unfoldable pub takeIn : Tally → Message → Verdict → Tally
 takeIn t m v = record {
@@ -101,7 +101,7 @@ refused number place = Refused (record { number = number; place = place })
 unfoldable pub accepting : Pair → ℕ → Tally → Received
 accepting p num t =
     let marked = withMark 64 (p .marks) (distance frameSpace (p .next .0) num) in
-    let run = leadingOnes 64 marked in
+    let run = trailingOnes 64 marked in
     record {
       pair = record {
         own = p .own;

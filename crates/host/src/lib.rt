@@ -134,6 +134,6 @@ pub fn acknowledge(own: u16, peer: u16, answer: Answer, number: FrameNo) -> Ackn
     let start = range.start;
     Acknowledgement {
         due: 0 < range.count,
-        frame: headers::ack_frame(peer, own, number, start, range.count),
+        frame: wire_headers::ack_frame(peer, own, number, start, range.count),
     }
 }

@@ -13,8 +13,8 @@ use Rattle.host.specs.declared.Stepped.{Stepped}
 use Rattle.host.specs.declared.Answer.{Answer}
 use Rattle.host.specs.declared.Answer.the-variants.{Accepted, Again, NoMessages, Refused}
 use Rattle.host.specs.Host.{Received, steppedOf}
-use Rattle.answer_line.specs.AnswerLine.{lineText, lineEnd, withLine}
-use Rattle.report.specs.Report.{letterOf, numbersOf}
+use Rattle.text_answer.specs.AnswerLine.{lineText, lineEnd, withLine}
+use Rattle.replay_line.specs.Report.{letterOf, numbersOf}
 use Rattle.text.specs.Pieces.{Filled, from, putAll}
 use Rattle.wording.specs.Wording.{doneLine}
 use Rattle.wording.proofs.Wording.{line-piece}

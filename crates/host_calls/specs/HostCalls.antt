@@ -5,20 +5,20 @@ use mathlib.Core.Bool.{true, cond}
 use mathlib.Core.List.{List, [], _∷_, _++_}
 use lib.Dec.{leb}
 use lib.ListN.{getD}
-use Rattle.decimal.specs.Decimal.{decimal}
+use Rattle.text_answer.specs.Decimal.{decimal}
 use Rattle.refusal.specs.declared.Class.{Class}
 use Rattle.refusal.specs.declared.Class.the-variants.{Wire, Message, Caller, Card, Other}
 use Rattle.wire.specs.Reading.{readFrame, destination, source, number, ackStart, ackCount, flags}
-use Rattle.layout.specs.Layout.{layoutOf}
-use Rattle.layout.specs.declared.Layout.{Layout}
-use Rattle.layout.specs.declared.Layout.the-variants.{Refused as LayoutRefused, Counts}
+use Rattle.wire_layout.specs.Layout.{layoutOf}
+use Rattle.wire_layout.specs.declared.Layout.{Layout}
+use Rattle.wire_layout.specs.declared.Layout.the-variants.{Refused as LayoutRefused, Counts}
 use Rattle.host.specs.declared.Pair.{Pair}
 use Rattle.host.specs.declared.Opened.{Opened}
 use Rattle.host.specs.declared.Answer.{Answer}
 use Rattle.host.specs.declared.Answer.the-variants.{Accepted, Again, NoMessages, Refused}
 use Rattle.host.specs.Host.{Received, openedOf, acknowledgementOf}
-use Rattle.answer_line.specs.AnswerLine.{lineText}
-use Rattle.report.specs.Report.{letterOf, numbersOf}
+use Rattle.text_answer.specs.AnswerLine.{lineText}
+use Rattle.replay_line.specs.Report.{letterOf, numbersOf}
 use Rattle.text.specs.Pieces.{Filled, from, putAll, bytesPieces}
 use Rattle.wording.specs.Wording.{wordLine, numberLine, doneLine}
 use Rattle.pair_text.specs.PairText.{pairPieces}

@@ -3,9 +3,9 @@
 // index behind the answer: specs/HostCalls.antt.
 use host::Answer;
 use host::Pair;
-use layout::Layout;
 use refusal::Class;
 use seq::FrameNo;
+use wire_layout::Layout;
 ghost use mathlib.Core.Path.{_≡_};
 ghost use lib.ListN.{length, replicate};
 ghost use Rattle.refusal.specs.Class.{classOf};
@@ -82,7 +82,7 @@ fn put_received(out: &mut [u8], at: usize, own: u16, peer: u16, answer: Answer) 
     ensures { λ r. ⌜ r ≡ receivedText own peer answer (now (out .entry)) at .at ⌝ }
     ensures { λ _. ⌜ now (out .exit) ≡ receivedText own peer answer (now (out .entry)) at .out ⌝ }
 {
-    let end = report::put_answer(out, at, answer);
+    let end = replay_line::put_answer(out, at, answer);
     if end <= at {
         return end;
     }
@@ -126,11 +126,11 @@ pub fn call_layout(frame: &[u8], out: &mut [u8], at: usize) -> usize
     ensures { λ r. ⌜ r ≡ putAll (from (now (out .entry)) at) (frameLine (now (frame .entry))) .at ⌝ }
     ensures { λ _. ⌜ now (out .exit) ≡ putAll (from (now (out .entry)) at) (frameLine (now (frame .entry))) .out ⌝ }
 {
-    let layout = layout::layout_of(frame);
+    let layout = wire_layout::layout_of(frame);
     match layout {
         Layout::Refused(n) => wording::put_numbered(out, at, b'R', n as u64),
         Layout::Counts(messages, bytes) => {
-            let head = reader::frame_header(frame);
+            let head = wire_read::frame_header(frame);
             let number = head.number;
             let start = head.ackstart;
             let numbers = [
@@ -143,7 +143,7 @@ pub fn call_layout(frame: &[u8], out: &mut [u8], at: usize) -> usize
                 messages as u64,
                 bytes as u64,
             ];
-            answer_line::put_line(out, at, b'L', &numbers)
+            text_answer::put_line(out, at, b'L', &numbers)
         }
     }
 }

@@ -12,9 +12,9 @@ use Rattle.octets.specs.Octets.{field}
 use Rattle.wire.specs.declared.MessageHeader.{MessageHeader}
 use Rattle.wire.specs.Format.{headOf, nextHeader, frameMost}
 use Rattle.wire.specs.Reading.{follows, dataEnd, messageAt}
-use Rattle.reader.specs.declared.Found.the-variants.{PastEnd}
-use Rattle.reader.specs.Finding.{headAt, foundAt}
-use Rattle.reader.proofs.Finding.{IsWhole, is-past}
+use Rattle.wire_read.specs.declared.Found.the-variants.{PastEnd}
+use Rattle.wire_read.specs.Finding.{headAt, foundAt}
+use Rattle.wire_read.proofs.Finding.{IsWhole, is-past}
 use Rattle.terms.specs.declared.Open.{Open}
 use Rattle.terms.specs.Terms.{free}
 use Rattle.transactions.specs.declared.Verdict.{Verdict}

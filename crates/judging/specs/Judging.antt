@@ -5,7 +5,7 @@ use mathlib.Core.Bool.{Bool, cond}
 use mathlib.Core.List.{List}
 use lib.Dec.{eqb, leb, ltb}
 use lib.ListN.{length, getD, set, replicate}
-use Rattle.marks.specs.Marks.{withMark}
+use Rattle.bitmap.specs.Marks.{withMark}
 use Rattle.octets.specs.Octets.{field}
 use Rattle.wire.specs.Format.{Message, nextHeader, frameMost}
 use Rattle.wire.specs.Reading.{follows, dataEnd, messageAt}

@@ -1,9 +1,9 @@
 // The first pass over a frame's messages: each is judged against what those before it leave, and nothing is written. Assumes
 // nothing: any bytes and any table get an answer. It promises specs/Judging.antt.
-use marks::word64;
-use reader::Found;
+use bitmap::word64;
 use seq::TransNo;
 use terms::Open;
+use wire_read::Found;
 ghost use mathlib.Core.Path.{_≡_};
 ghost use mathlib.Core.Bool.{cond};
 ghost use Prim.Native.Nat.{_+_, _≤_, _<_};
@@ -118,7 +118,7 @@ pub fn judge_all(low: TransNo, shut: u32, places: [Open; 32], f: &[u8], size: us
     ensures { λ r. ⌜ r ≡ judgedOf (now (f .entry)) (record { lowest = low .0; closed = shut; table = places }) size ⌝ }
 {
     if wire::FRAME_MOST < f.len() {
-        return refused_at(refusal::FRAME_LONG, 0);
+        return refused_at(refusal::FRAME_TOO_LONG, 0);
     }
     let mut lowest = low;
     let mut closed = shut;
@@ -127,9 +127,9 @@ pub fn judge_all(low: TransNo, shut: u32, places: [Open; 32], f: &[u8], size: us
     let mut counts = NONE;
     let mut at = 10;
     loop {
-        let found = reader::message_at(f, at);
+        let found = wire_read::message_at(f, at);
         match found {
-            Found::PastEnd => return refused_at(refusal::PAST_END, counts.messages),
+            Found::PastEnd => return refused_at(refusal::PAST_FRAME_END, counts.messages),
             Found::Whole(h, len, more, next) => {
                 let s = (h.trans.0 % 32) as usize;
                 let v = transactions::judge(lowest, closed, table[s], h, len, size);

@@ -5,7 +5,7 @@ use mathlib.Core.Bool.{cond}
 use mathlib.Core.List.{List, [], _∷_, _++_}
 use lib.Dec.{eqb}
 use lib.ListN.{getD}
-use Rattle.decimal.specs.Decimal.{decimal}
+use Rattle.text_answer.specs.Decimal.{decimal}
 use Rattle.io.specs.Digits.{digits}
 use Rattle.seq.specs.Ring.{advance, transSpace}
 use Rattle.terms.specs.declared.Open.{Open}

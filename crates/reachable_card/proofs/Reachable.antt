@@ -14,8 +14,8 @@ use lib.Dec.{eqb, ltb}
 use lib.ListN.{length, getD, set, replicate, length-set}
 use lib.Seq.{getD-set-same, getD-set-other, length-take-le}
 use Rattle.seq.specs.Ring.{frameSpace, distance, advance}
-use Rattle.marks.specs.Marks.{mark, leadingOnes, marksOf}
-use Rattle.marks.proofs.Marks.{
+use Rattle.bitmap.specs.Marks.{mark, trailingOnes, marksOf}
+use Rattle.bitmap.proofs.Marks.{
   mark-of-zero,
   mark-marksOf,
   mark-marksOf-beyond,
@@ -177,7 +177,7 @@ module _ (w : SendWindow) (limit start count : ℕ) (k : InOrder w limit) where
   marked-fits = marksOf-lt 64 (acknowledgedBy w start count)
 
   abbrev released : ℕ
-  released = leadingOnes 64 marked
+  released = trailingOnes 64 marked
 
   released-most : released ≤ unreleased w
   released-most = run-most 64 (unreleased w) marked marked-past
@@ -212,7 +212,7 @@ nothing-counted =
     record {
       added-most = omega (arith, needed-pos 0);
       count-fits = omega arith;
-      target-fits = omega arith;
+      address-fits = omega arith;
       value-fits = omega arith;
       latest-fits = omega arith;
     }
@@ -239,10 +239,10 @@ none-orderly =
       lowest-clear = mark-of-zero 0;
     }
 
-opening-keeps : (s : Sendings) (count target value : ℕ) → Orderly s → opened s < 32 → count < 2 ^ 16 → target < 2 ^ 32
-    → value < 2 ^ 32 → Orderly (opening s count target value)
+opening-keeps : (s : Sendings) (count address value : ℕ) → Orderly s → opened s < 32 → count < 2 ^ 16 → address < 2 ^ 32
+    → value < 2 ^ 32 → Orderly (opening s count address value)
 unfolding opening advance distance
-opening-keeps s count target value o room c t v =
+opening-keeps s count address value o room c t v =
     record {
       next-fits = omega arith;
       lowest-fits = o .lowest-fits;
@@ -254,17 +254,17 @@ opening-keeps s count target value o room c t v =
       lowest-clear = o .lowest-clear;
     }
   where
-    new : Counted (record { target = target; value = value; count = count; added = 0; latest = record { 0 = 0 } })
+    new : Counted (record { address = address; value = value; count = count; added = 0; latest = record { 0 = 0 } })
     new =
         record {
           added-most = omega (arith, needed-pos count);
           count-fits = c;
-          target-fits = t;
+          address-fits = t;
           value-fits = v;
           latest-fits = omega arith;
         }
 
-    one-more : opened (opening s count target value) ≡ suc (opened s)
+    one-more : opened (opening s count address value) ≡ suc (opened s)
     one-more = omega (arith, o .next-fits, o .lowest-fits, room)
 
 adding-keeps : (s : Sendings) (t frame : ℕ) → Orderly s → frame < frameSpace → Orderly (adding s t frame)
@@ -281,7 +281,7 @@ adding-keeps s t frame o f = go (takes s t) refl
         record {
           added-most = omega arith;
           count-fits = k .count-fits;
-          target-fits = k .target-fits;
+          address-fits = k .address-fits;
           value-fits = k .value-fits;
           latest-fits = f;
         }
@@ -319,7 +319,7 @@ module _ (s : Sendings) (base next : ℕ) (o : Orderly s) where
   ended-fits = marksOf-lt 32 (finishedBy s base next)
 
   abbrev gone : ℕ
-  gone = leadingOnes 32 ended
+  gone = trailingOnes 32 ended
 
   less-open : opened (finishing s base next) ≡ opened s - gone
   unfolding finishing passing distance advance ended
@@ -375,12 +375,12 @@ opened-reachable own peer limit slots h k = go (eqb own 0) refl (eqb peer 0) ref
 
 -- ---- the steps
 
-pub opening-reachable : (c : Card) (count target value : ℕ) → Reachable c → count < 2 ^ 16 → target < 2 ^ 32 → value < 2 ^ 32
-    → Reachable (openTransaction c count target value .card)
+pub opening-reachable : (c : Card) (count address value : ℕ) → Reachable c → count < 2 ^ 16 → address < 2 ^ 32 → value < 2 ^ 32
+    → Reachable (openTransaction c count address value .card)
 unfolding openTransaction openingRefusal
-opening-reachable c count target value r k t v = go (ltb (opened (c .sendings)) 32) refl
+opening-reachable c count address value r k t v = go (ltb (opened (c .sendings)) 32) refl
   where
-    go : (b : Bool) → ltb (opened (c .sendings)) 32 ≡ b → Reachable (openTransaction c count target value .card)
+    go : (b : Bool) → ltb (opened (c .sendings)) 32 ≡ b → Reachable (openTransaction c count address value .card)
     go false z = rw z r
     go true z =
         rw z (record {
@@ -389,7 +389,7 @@ opening-reachable c count target value r k t v = go (ltb (opened (c .sendings)) 
           opening = r .opening;
           building = still (r .building);
           window = r .window;
-          sendings = opening-keeps (c .sendings) count target value (r .sendings) (ltb-true (opened (c .sendings)) 32 z) k t v;
+          sendings = opening-keeps (c .sendings) count address value (r .sendings) (ltb-true (opened (c .sendings)) 32 z) k t v;
         })
       where
         still : ((c .used ≡ 0) × (c .last ≡ 0)) ⊎ Building c
@@ -400,7 +400,7 @@ opening-reachable c count target value r k t v = go (ltb (opened (c .sendings)) 
               used = c .used;
               last = c .last;
               window = c .window;
-              sendings = opening (c .sendings) count target value;
+              sendings = opening (c .sendings) count address value;
             })
         still (inl e) = inl e
         still (inr b) =

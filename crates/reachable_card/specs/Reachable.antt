@@ -6,7 +6,7 @@ use mathlib.Core.Logic.{_≢_, _⊎_}
 use mathlib.Core.Bool.{false}
 use lib.ListN.{length, getD}
 use Rattle.seq.specs.Ring.{frameSpace, transSpace}
-use Rattle.marks.specs.Marks.{mark}
+use Rattle.bitmap.specs.Marks.{mark}
 use Rattle.wire.specs.Format.{needed, frameMost}
 use Rattle.send_window.specs.declared.SendWindow.{SendWindow}
 use Rattle.send_window.specs.Window.{unreleased}
@@ -35,7 +35,7 @@ pub record InOrder (w : SendWindow) (limit : ℕ) : Type 0 where
 pub record Counted (e : Sending) : Type 0 where
   pub added-most : e .added ≤ needed (e .count)
   pub count-fits : e .count < 2 ^ 16
-  pub target-fits : e .target < 2 ^ 32
+  pub address-fits : e .address < 2 ^ 32
   pub value-fits : e .value < 2 ^ 32
   pub latest-fits : e .latest .0 < frameSpace
 

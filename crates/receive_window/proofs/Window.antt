@@ -7,7 +7,7 @@ use Prim.Native.Nat.{ℕ, _≤_, _<_}
 use native.Mathlib.Decide.{decLe}
 use native.Mathlib.Omega.{arith}
 use borrow.Author.Tests.{le-leb, lt-leb}
-use Rattle.marks.specs.Marks.{mark}
+use Rattle.bitmap.specs.Marks.{mark}
 use Rattle.receive_window.specs.Answers.{isNew}
 
 pub not-new : (marks d : ℕ) → isNew marks d ≡ false → (64 ≤ d) ⊎ (mark marks d ≡ true)

@@ -4,7 +4,7 @@ use Prim.Native.Nat.{ℕ}
 use mathlib.Core.Bool.{Bool, false, cond, not}
 use mathlib.Core.List.{List, []}
 use lib.Dec.{eqb, leb, ltb}
-use Rattle.marks.specs.Marks.{mark}
+use Rattle.bitmap.specs.Marks.{mark}
 use Rattle.wire.specs.Reading.{addressed, readFrame, refusalOf}
 use Rattle.transactions.specs.Transactions.{Transactions}
 use Rattle.host.specs.declared.Answer.{Answer}

@@ -1,11 +1,11 @@
 // What a frame's number decides at the host: whether the frame is new, the window after it was accepted, and the answers to frames
 // that are behind, ahead, accepted already or refused. Assumes nothing of the pair, which may be one that no run reaches. It
 // promises what specs/Answers.antt says.
+use bitmap::word64;
 use host::Answer;
 use host::Pair;
 use host::Refusal;
 use host::Stepped;
-use marks::word64;
 use seq::FrameNo;
 use seq::TransNo;
 use terms::Open;
@@ -34,7 +34,7 @@ pub fn accept(pair: Pair, number: FrameNo, lowest: TransNo, closed: u32, table: 
 {
     let next = pair.next;
     let marked = word64::with_mark(pair.marks, number.distance(next) as u32);
-    let run = word64::leading_ones(marked);
+    let run = word64::trailing_ones(marked);
     Pair {
         own: pair.own,
         peer: pair.peer,
@@ -70,7 +70,7 @@ fn again(pair: Pair, number: FrameNo) -> Stepped
 pub fn refuse(pair: Pair, f: &[u8], stop: u8, place: u32) -> Stepped
     ensures { λ r. ⌜ r ≡ refusedWith pair (now (f .entry)) stop place ⌝ }
 {
-    let cut = layout::refusal_of(f, pair.own, pair.peer);
+    let cut = wire_layout::refusal_of(f, pair.own, pair.peer);
     if cut != 0 {
         return refusing(pair, cut, 0);
     }
@@ -82,7 +82,7 @@ pub fn refuse(pair: Pair, f: &[u8], stop: u8, place: u32) -> Stepped
 pub fn answer_by_number(pair: Pair, f: &[u8], number: FrameNo, d: u16) -> Stepped
     ensures { λ r. ⌜ r ≡ numberAnswered pair (now (f .entry)) (number .0) d ⌝ }
 {
-    let bad = layout::refusal_of(f, pair.own, pair.peer);
+    let bad = wire_layout::refusal_of(f, pair.own, pair.peer);
     if bad != 0 {
         return refusing(pair, bad, 0);
     }

@@ -9,8 +9,8 @@ use native.Mathlib.Decide.{decLe}
 use native.Mathlib.Omega.{arith}
 use lib.ListN.{length, getD, set, replicate, length-set}
 use lib.Seq.{getD-set-same, getD-set-other, set-getD}
-use Rattle.marks.specs.Marks.{mark, withMark, marksOf}
-use Rattle.marks.proofs.Marks.{mark-same, mark-other, mark-of-zero, mark-marksOf}
+use Rattle.bitmap.specs.Marks.{mark, withMark, marksOf}
+use Rattle.bitmap.proofs.Marks.{mark-same, mark-other, mark-of-zero, mark-marksOf}
 use Rattle.judging.specs.Judging.{notedWord, notedOf}
 use Rattle.depositing.specs.Depositing.{dueAt}
 

@@ -17,7 +17,7 @@ use Rattle.wire.specs.Format.{Message, nextHeader}
 use Rattle.wire.specs.Reading.{follows, dataEnd, messageAt, prepend, messagesFrom}
 use Rattle.wire.proofs.Format.{next-after}
 use Rattle.wire.proofs.Reading.{Headed, unread, headed}
-use Rattle.reader.proofs.Finding.{step-last, step-more}
+use Rattle.wire_read.proofs.Finding.{step-last, step-more}
 use Rattle.transactions.specs.declared.Verdict.{Verdict}
 use Rattle.transactions.specs.Transactions.{Transactions, verdict, after}
 use Rattle.host.specs.Host.{effect, Tally, takeIn, fine, wrong, takeAll}

@@ -11,7 +11,7 @@ use native.Mathlib.Decide.{decLe}
 use native.Mathlib.Omega.{arith}
 use borrow.Author.Tests.{le-leb, lt-leb, lt-ltb, le-ltb}
 use lib.ListN.{length, replicate}
-use Rattle.marks.specs.Marks.{mark}
+use Rattle.bitmap.specs.Marks.{mark}
 use Rattle.wire.specs.Format.{Message}
 use Rattle.wire.specs.Reading.{addressed, refusalOf, messagesFrom, orPassesEnd}
 use Rattle.wire.proofs.Reading.{read-messages}

@@ -7,7 +7,7 @@ use mathlib.Core.Bool.{true, false}
 use mathlib.Core.List.{List}
 use lib.ListN.{length}
 use Rattle.seq.specs.Ring.{distance, frameSpace}
-use Rattle.marks.specs.Marks.{mark}
+use Rattle.bitmap.specs.Marks.{mark}
 use Rattle.wire.specs.Reading.{number, flags, addressed}
 use Rattle.host.specs.declared.Pair.{Pair}
 use Rattle.host.specs.declared.Stepped.{Stepped}

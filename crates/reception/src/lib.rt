@@ -69,11 +69,11 @@ pub fn receive(pair: Pair, f: &[u8], memory: &mut [u8]) -> Stepped
     ensures { λ r. ⌜ r ≡ steppedOf (receiveOf pair (now (f .entry)) (now (memory .entry))) ⌝ }
     ensures { λ _. ⌜ now (memory .exit) ≡ receiveOf pair (now (f .entry)) (now (memory .entry)) .memory ⌝ }
 {
-    let stop = heading::heading_refusal(f, pair.own, pair.peer);
+    let stop = wire_layout::heading_refusal(f, pair.own, pair.peer);
     if stop != 0 {
         return receive_window::refusing(pair, stop, 0);
     }
-    let head = reader::frame_header(f);
+    let head = wire_read::frame_header(f);
     if head.flags == 0 {
         return Stepped {
             pair,

@@ -5,31 +5,31 @@ ghost use Rattle.refusal.specs.Class.{classOf, classNumber};
 
 // ---- of the wire: a frame that can't be read, or is too far ahead
 
-pub const FRAME_SHORT: u8 = 1;
+pub const FRAME_TOO_SHORT: u8 = 1;
 
-pub const FRAME_LONG: u8 = 2;
+pub const FRAME_TOO_LONG: u8 = 2;
 
-pub const FOREIGN_ID: u8 = 3;
+pub const WRONG_ID: u8 = 3;
 
 pub const RESERVED_FLAG: u8 = 4;
 
-pub const PAST_END: u8 = 5;
+pub const PAST_FRAME_END: u8 = 5;
 
 pub const FRAME_AHEAD: u8 = 6;
 
 // ---- of a message
 
-pub const TRANS_OUTSIDE: u8 = 7;
+pub const TRANSACTION_OUTSIDE_WINDOW: u8 = 7;
 
-pub const TRANS_CLOSED: u8 = 8;
+pub const TRANSACTION_CLOSED: u8 = 8;
 
-pub const TERMS_DIFFER: u8 = 9;
+pub const HEADER_DIFFERS: u8 = 9;
 
 pub const BARE_WITH_DATA: u8 = 10;
 
-pub const DATA_OUTSIDE: u8 = 11;
+pub const DATA_OUTSIDE_MEMORY: u8 = 11;
 
-pub const COMPLETION_OUTSIDE: u8 = 12;
+pub const COMPLETION_OUTSIDE_MEMORY: u8 = 12;
 
 // ---- of the caller
 
@@ -39,21 +39,21 @@ pub const BAD_LINE: u8 = 14;
 
 // ---- of the card
 
-pub const TRANS_WINDOW_FULL: u8 = 20;
+pub const TRANSACTION_WINDOW_FULL: u8 = 20;
 
 pub const FRAME_WINDOW_FULL: u8 = 21;
 
 pub const FRAME_FULL: u8 = 22;
 
-pub const TRANS_UNKNOWN: u8 = 23;
+pub const NO_MESSAGE_LEFT: u8 = 23;
 
 pub const NOTHING_TO_SEAL: u8 = 24;
 
 pub const NOT_HELD: u8 = 25;
 
-pub const BAD_SLOTS: u8 = 26;
+pub const BAD_LIMIT_OR_SLOTS: u8 = 26;
 
-pub const ADDING_TO_BARE: u8 = 27;
+pub const DATA_FOR_BARE: u8 = 27;
 
 // Other is the class of every number that no list above has.
 pub enum Class {

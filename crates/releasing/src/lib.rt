@@ -1,11 +1,11 @@
 // Which of the card's sealed frames an arriving acknowledgement releases. Assumes nothing of the state, which may be one that no
 // run reaches. It promises send_window/specs/Window.antt, acknowledging.
-use marks::word64;
+use bitmap::word64;
 use send_window::SendWindow;
 use seq::FrameNo;
 ghost use mathlib.Core.Path.{_≡_};
 ghost use mathlib.Core.Bool.{Bool, true, false};
-ghost use Rattle.marks.specs.Marks.{marksOf};
+ghost use Rattle.bitmap.specs.Marks.{marksOf};
 ghost use Rattle.send_window.specs.Window.{acknowledgedBy, acknowledging};
 
 // Whether the frame base + i is acknowledged once the count numbers from start on are.
@@ -44,7 +44,7 @@ pub fn acknowledge(w: SendWindow, start: FrameNo, count: u8) -> SendWindow
     ensures { λ r. ⌜ r ≡ acknowledging w (start .0) count ⌝ }
 {
     let acked = acknowledged(w, start, count);
-    let run = word64::leading_ones(acked);
+    let run = word64::trailing_ones(acked);
     let next = w.next;
     let base = w.base;
     let sizes = w.sizes;

@@ -2,11 +2,11 @@
 // ID 1 and peer 2, and writes the answers, and last the totals. All that matters is in the libraries below; what is assumed is
 // that read and write do what their pages say. Where one of them fails, that is said on standard error and no totals are written: a
 // program has no exit status, so it is the last line that tells a whole replay.
-use hexline::Line;
+use hex_line::Line;
 use host::Pair;
 use libc::STDIN_FILENO;
 use libc::STDOUT_FILENO;
-use report::Totals;
+use replay_line::Totals;
 ghost use mathlib.Core.Path.{_≡_};
 ghost use Prim.Native.Nat.{_≤_, _<_};
 ghost use lib.ListN.{length};
@@ -81,11 +81,11 @@ fn answer_ended(state: Replay, frame: &[u8], memory: &mut [u8], out: &mut [u8]) 
     let before = state.pair;
     let line = state.line;
     let totals = state.totals;
-    let step = report::answer_line(before, line, frame, memory);
+    let step = replay_line::answer_line(before, line, frame, memory);
     let pair = step.pair;
     let answer = step.answer;
     let room = make_room(out, state.used, state.failed);
-    let used = report::put_answer(out, room.used, answer);
+    let used = replay_line::put_answer(out, room.used, answer);
     Replay {
         pair,
         line: Line::start(),
@@ -108,7 +108,7 @@ fn take_piece(
     let mut at = 0;
     while at < piece.len() && state.lines < LINES_MOST {
         let line = state.line;
-        let taken = hexfeed::take_in(line, frame, piece, at);
+        let taken = hex_feed::take_in(line, frame, piece, at);
         let now = taken.line;
         at = taken.at;
         state.line = now;
@@ -214,7 +214,7 @@ fn finish(at_end: Replay, frame: &mut [u8], memory: &mut [u8], out: &mut [u8]) {
     if room.failed {
         return;
     }
-    let used = answer_line::put_line(out, room.used, b'T', &numbers);
+    let used = text_answer::put_line(out, room.used, b'T', &numbers);
     write_out(out, used);
 }
 

@@ -45,7 +45,12 @@ pub fn show_refusal(card: Card, slots: &[u8], n: FrameNo) -> u8
 {
     let held = card.window.holds(n);
     let fitting = card::is_fitting(card.limit as usize, slots);
-    card::first_refusal(!fitting, refusal::BAD_SLOTS, !held, refusal::NOT_HELD)
+    card::first_refusal(
+        !fitting,
+        refusal::BAD_LIMIT_OR_SLOTS,
+        !held,
+        refusal::NOT_HELD,
+    )
 }
 
 // Shows a held frame: a part of the slots, empty where the showing is refused.
@@ -79,7 +84,12 @@ pub fn choose_refusal(card: Card, slots: &[u8], ack: &[u8]) -> u8
     let fitting = card::is_fitting(card.limit as usize, slots);
     let lent = is_ack(ack);
     let some = lent | is_any_held(card.window);
-    card::first_refusal(!fitting, refusal::BAD_SLOTS, !some, refusal::NOT_HELD)
+    card::first_refusal(
+        !fitting,
+        refusal::BAD_LIMIT_OR_SLOTS,
+        !some,
+        refusal::NOT_HELD,
+    )
 }
 
 // The oldest held frame: a part of the slots.

@@ -11,8 +11,8 @@ use borrow.Author.Tests.{ltb-true, ltb-false, lt-ltb, le-ltb, leb-true, le-leb}
 use lib.Dec.{ltb, leb, lit<}
 use Rattle.seq.specs.Ring.{frameSpace, distance, advance, inRange}
 use Rattle.seq.proofs.Ring.{distance-ahead, ack-covers, covers-ack, advance-distance}
-use Rattle.marks.specs.Marks.{mark, leading, leadingOnes, marksOf}
-use Rattle.marks.proofs.Marks.{
+use Rattle.bitmap.specs.Marks.{mark, leading, trailingOnes, marksOf}
+use Rattle.bitmap.proofs.Marks.{
   leading-is,
   mark-marksOf,
   mark-marksOf-beyond,
@@ -41,7 +41,7 @@ pos = lit< tt
 
 -- Where the lowest frame not released is not acknowledged, it is the oldest held one.
 pub none-before-held : (w : SendWindow) → (0 < unreleased w → mark (w .acked) 0 ≡ false) → beforeHeld w ≡ 0
-unfolding beforeHeld leadingOnes
+unfolding beforeHeld trailingOnes
 none-before-held w clear = leading-is (mark (w .acked)) (unreleased w) 0 (omega arith) (λ i h. absurd (omega arith)) clear
 
 pub oldest-base : (w : SendWindow) → w .base .0 < frameSpace → beforeHeld w ≡ 0 → oldestHeld w ≡ w .base .0
@@ -149,14 +149,14 @@ module _ (w : SendWindow) (released sealed : ℕ) (within : released ≤ sealed)
             ∙ sym (q-beyond (released + i) (omega arith))
 
     -- the frames released then are those before the first that is not acknowledged, and the marks stand for those from there on
-    pub released-moves : leading q sealed ≡ released + leadingOnes 64 marked
+    pub released-moves : leading q sealed ≡ released + trailingOnes 64 marked
     released-moves = window-moves q sealed released 64 marked within few below marked-is q-beyond
 
     pub base-after : acknowledging w (c % frameSpace) count .base .0 ≡ leading q sealed % frameSpace
     unfolding acknowledging releasing advance
     base-after =
-        ap (λ (n : ℕ). (n + leadingOnes 64 marked) % frameSpace) base-is
-        ∙ mod-add-mod released frameSpace (leadingOnes 64 marked)
+        ap (λ (n : ℕ). (n + trailingOnes 64 marked) % frameSpace) base-is
+        ∙ mod-add-mod released frameSpace (trailingOnes 64 marked)
         ∙ ap (λ (n : ℕ). n % frameSpace) (sym released-moves)
 
     pub marks-after : (i : ℕ) → mark (acknowledging w (c % frameSpace) count .acked) i ≡ q (leading q sealed + i)

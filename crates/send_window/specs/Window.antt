@@ -6,7 +6,7 @@ use mathlib.Core.Bool.{Bool, not, _&&_, _||_}
 use lib.Dec.{ltb}
 use lib.ListN.{getD, set, replicate}
 use Rattle.seq.specs.Ring.{frameSpace, distance, advance, inRange}
-use Rattle.marks.specs.Marks.{mark, leadingOnes, marksOf}
+use Rattle.bitmap.specs.Marks.{mark, trailingOnes, marksOf}
 use Rattle.send_window.specs.declared.SendWindow.{SendWindow}
 
 -- Frames start at 0, and none is sealed.
@@ -24,7 +24,7 @@ held w n =
 
 -- How many sealed frames, from the lowest not released on, are acknowledged before the first that is not: the oldest held one.
 unfoldable pub beforeHeld : SendWindow → ℕ
-beforeHeld w = leadingOnes (unreleased w) (w .acked)
+beforeHeld w = trailingOnes (unreleased w) (w .acked)
 
 abbrev pub anyHeld : SendWindow → Bool
 anyHeld w = ltb (beforeHeld w) (unreleased w)
@@ -55,7 +55,7 @@ acknowledgedBy w start count i =
 -- Released (a term of the rules): the frame and all sealed before it are acknowledged. The window moves past these.
 unfoldable pub releasing : SendWindow → ℕ → SendWindow
 releasing w acked =
-    let run = leadingOnes 64 acked in
+    let run = trailingOnes 64 acked in
     record {
       acked = acked / 2 ^ run;
       next = w .next;

@@ -1,7 +1,7 @@
 // The card's sealed frames as a window: which are released, which acknowledged, which held. Assumes nothing of the state, which
 // may be one that no run reaches. It promises what specs/Window.antt says, where releasing is defined too, which the crate
 // releasing does.
-use marks::word64;
+use bitmap::word64;
 use seq::FrameNo;
 ghost use mathlib.Core.Path.{_≡_};
 ghost use mathlib.Core.Bool.{Bool, true, false};
@@ -61,7 +61,7 @@ impl SendWindow {
     pub fn before_held(self) -> u16
         ensures { λ r. ⌜ r ≡ beforeHeld self ⌝ }
     {
-        let run = word64::leading_ones(self.acked) as u16;
+        let run = word64::trailing_ones(self.acked) as u16;
         let most = self.unreleased();
         if most < run {
             return most;

@@ -12,8 +12,8 @@ use lib.Dec.{ltb, lit<}
 use lib.ListN.{getD}
 use Rattle.seq.specs.Ring.{frameSpace, transSpace, distance, advance, inRange}
 use Rattle.seq.proofs.Ring.{distance-ahead, distance-behind, advance-distance}
-use Rattle.marks.specs.Marks.{mark, leading, leadingOnes, marksOf}
-use Rattle.marks.proofs.Marks.{mark-marksOf, mark-marksOf-beyond, window-moves, window-marks}
+use Rattle.bitmap.specs.Marks.{mark, leading, trailingOnes, marksOf}
+use Rattle.bitmap.proofs.Marks.{mark-marksOf, mark-marksOf-beyond, window-moves, window-marks}
 use Rattle.wire.specs.Format.{needed}
 use Rattle.sendings.specs.declared.Sending.{Sending}
 use Rattle.sendings.specs.declared.Sendings.{Sendings}
@@ -118,14 +118,14 @@ module _ (s : Sendings) (low total : ℕ) (within : low ≤ total) (few : total 
             mark-marksOf-beyond 32 (finishedBy s base next) i (omega arith) ∙ sym (unopened (low + i) (omega arith))
 
     -- the lowest unfinished one is then the first of which q is false, and the marks stand for those from there on
-    pub low-moves : leading q total ≡ low + leadingOnes 32 marked
+    pub low-moves : leading q total ≡ low + trailingOnes 32 marked
     low-moves = window-moves q total low 32 marked within few below marked-is unopened
 
     pub lowest-after : finishing s base next .lowest .0 ≡ leading q total % transSpace
     unfolding finishing passing advance
     lowest-after =
-        ap (λ (n : ℕ). (n + leadingOnes 32 marked) % transSpace) lowest-is
-        ∙ mod-add-mod low transSpace (leadingOnes 32 marked)
+        ap (λ (n : ℕ). (n + trailingOnes 32 marked) % transSpace) lowest-is
+        ∙ mod-add-mod low transSpace (trailingOnes 32 marked)
         ∙ ap (λ (n : ℕ). n % transSpace) (sym low-moves)
 
     pub finished-after : (i : ℕ) → mark (finishing s base next .finished) i ≡ q (leading q total + i)

@@ -5,13 +5,13 @@ use mathlib.Core.Bool.{Bool, cond, _&&_, _||_}
 use lib.Dec.{eqb, ltb}
 use lib.ListN.{getD, set, replicate}
 use Rattle.seq.specs.Ring.{frameSpace, transSpace, distance, advance, inRange}
-use Rattle.marks.specs.Marks.{mark, leadingOnes, marksOf}
+use Rattle.bitmap.specs.Marks.{mark, trailingOnes, marksOf}
 use Rattle.wire.specs.Format.{needed}
 use Rattle.sendings.specs.declared.Sending.{Sending}
 use Rattle.sendings.specs.declared.Sendings.{Sendings}
 
 abbrev pub noSending : Sending
-noSending = record { target = 0; value = 0; count = 0; added = 0; latest = record { 0 = 0 } }
+noSending = record { address = 0; value = 0; count = 0; added = 0; latest = record { 0 = 0 } }
 
 -- Transactions start at 0, and none is opened.
 unfoldable pub noSendings : Sendings
@@ -33,12 +33,12 @@ openingRefusal s = cond (ltb (opened s) 32) 0 20
 
 -- The next number is given to a transaction of these terms. No message of it is added yet.
 unfoldable pub opening : Sendings → ℕ → ℕ → ℕ → Sendings
-opening s count target value = record {
+opening s count address value = record {
   next = record { 0 = advance transSpace (s .next .0) 1 };
   lowest = s .lowest;
   finished = s .finished;
   table = set (s .table) (s .next .0 % 32)
-      (record { target = target; value = value; count = count; added = 0; latest = record { 0 = 0 } });
+      (record { address = address; value = value; count = count; added = 0; latest = record { 0 = 0 } });
 }
 
 -- ---- adding
@@ -53,7 +53,7 @@ takes s t =
 -- One message of transaction t more, in the frame of this number; nothing where t takes none.
 abbrev pub oneMore : Sending → ℕ → Sending
 oneMore e frame = record {
-  target = e .target;
+  address = e .address;
   value = e .value;
   count = e .count;
   added = suc (e .added);
@@ -89,7 +89,7 @@ finishedBy s base next i =
 -- The window moves past consecutive finished ones.
 unfoldable pub passing : Sendings → ℕ → Sendings
 passing s finished =
-    let run = leadingOnes 32 finished in
+    let run = trailingOnes 32 finished in
     record {
       next = s .next;
       lowest = record { 0 = advance transSpace (s .lowest .0) run };

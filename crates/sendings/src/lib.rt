@@ -10,7 +10,7 @@ ghost use Rattle.sendings.specs.Sendings.{noSendings, sendingAt, opening
 // A transaction as the card sends it: its terms, how many of its messages are added, and the number of the frame that the latest
 // of them went into.
 pub struct Sending {
-    pub target: u32,
+    pub address: u32,
     pub value: u32,
     pub count: u16,
     pub added: u16,
@@ -35,7 +35,7 @@ pub fn no_sendings() -> Sendings
         lowest: TransNo(0),
         finished: 0,
         table: [Sending {
-            target: 0,
+            address: 0,
             value: 0,
             count: 0,
             added: 0,
@@ -64,18 +64,18 @@ impl Sendings {
         if next.distance(lowest) < 32 {
             return 0;
         }
-        refusal::TRANS_WINDOW_FULL
+        refusal::TRANSACTION_WINDOW_FULL
     }
 
     // The transactions with one more opened, under the next number.
-    pub fn open(self, count: u16, target: u32, value: u32) -> Sendings
-        ensures { λ r. ⌜ r ≡ opening self count target value ⌝ }
+    pub fn open(self, count: u16, address: u32, value: u32) -> Sendings
+        ensures { λ r. ⌜ r ≡ opening self count address value ⌝ }
     {
         let next = self.next;
         let lowest = self.lowest;
         let mut table = self.table;
         table[(next.0 % 32) as usize] = Sending {
-            target,
+            address,
             value,
             count,
             added: 0,

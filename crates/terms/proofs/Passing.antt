@@ -6,7 +6,7 @@ use Prim.Native.Nat.{ℕ, _<_}
 use native.Mathlib.Omega.{arith}
 use borrow.Author.Tests.{leb-false, eqb-true}
 use lib.Dec.{eqb, leb}
-use Rattle.marks.specs.Marks.{mark}
+use Rattle.bitmap.specs.Marks.{mark}
 use Rattle.wire.specs.declared.MessageHeader.{MessageHeader}
 use Rattle.terms.specs.declared.Open.{Open}
 use Rattle.terms.specs.Terms.{termsRefusal, addressRefusal, firstOf, messageRefusal}

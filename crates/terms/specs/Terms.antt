@@ -3,19 +3,19 @@
 use Prim.Native.Nat.{ℕ, _+_}
 use mathlib.Core.Bool.{Bool, cond, not, _&&_, _||_}
 use lib.Dec.{eqb, leb, ltb}
-use Rattle.marks.specs.Marks.{mark}
+use Rattle.bitmap.specs.Marks.{mark}
 use Rattle.wire.specs.declared.MessageHeader.{MessageHeader}
 use Rattle.terms.specs.declared.Open.{Open}
 
 -- A place of the table with no open transaction in it.
 abbrev pub free : Open
-free = record { count = 0; target = 0; value = 0; received = 0 }
+free = record { count = 0; address = 0; value = 0; received = 0 }
 
 -- Whether a message's header agrees with what the first message of its transaction said, if there was one.
 unfoldable pub agrees : Open → MessageHeader → Bool
 agrees o h =
     eqb (o .received) 0
-    || (eqb (o .count) (h .count) && (eqb (o .target) (h .target) && eqb (o .value) (h .value)))
+    || (eqb (o .count) (h .count) && (eqb (o .address) (h .«completion_address») && eqb (o .value) (h .«completion_value»)))
 
 -- Refusals 7 to 10 of a message with `len` data bytes, 0 for none. `d` is how far its transaction lies past the lowest one that
 -- is not complete, `closed` marks closed ones from there on, and `o` is its transaction's place in the table.
@@ -28,7 +28,7 @@ termsRefusal d closed o h len =
 
 -- Refusals 11 and 12 against a memory of `size` bytes, 0 for none. The sums are over all numbers: nothing wraps.
 unfoldable pub addressRefusal : ℕ → MessageHeader → ℕ → ℕ
-addressRefusal size h len = cond (ltb size (h .at + len)) 11 (cond (ltb size (h .target + 4)) 12 0)
+addressRefusal size h len = cond (ltb size (h .«data_address» + len)) 11 (cond (ltb size (h .«completion_address» + 4)) 12 0)
 
 -- The first of two refusals that is one.
 abbrev pub firstOf : ℕ → ℕ → ℕ

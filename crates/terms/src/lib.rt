@@ -1,6 +1,6 @@
 // Refusals 7 to 12 of one message: its transaction's number and terms, and its addresses. Assumes nothing of the open transaction
 // that it is held against, which may be one that no run reaches. It promises specs/Terms.antt, messageRefusal.
-use marks::word32;
+use bitmap::word32;
 use wire::MessageHeader;
 ghost use mathlib.Core.Path.{_≡_};
 ghost use Rattle.terms.specs.Terms.{agrees, termsRefusal, addressRefusal, messageRefusal};
@@ -8,7 +8,7 @@ ghost use Rattle.terms.specs.Terms.{agrees, termsRefusal, addressRefusal
 // An open transaction: what its first message said of it, and how many were received. The wide fields come first: without padding
 // the table is copied as one block.
 pub struct Open {
-    pub target: u32,
+    pub address: u32,
     pub value: u32,
     pub count: u16,
     pub received: u16,
@@ -16,7 +16,7 @@ pub struct Open {
 
 // A place that holds no transaction.
 pub const FREE: Open = Open {
-    target: 0,
+    address: 0,
     value: 0,
     count: 0,
     received: 0,
@@ -32,10 +32,10 @@ fn has_same_terms(o: Open, h: MessageHeader) -> bool
     if o.count != h.count {
         return false;
     }
-    if o.target != h.target {
+    if o.address != h.completion_address {
         return false;
     }
-    o.value == h.value
+    o.value == h.completion_value
 }
 
 // Refusals 7 to 10 of a message whose transaction lies d past the lowest one that is not complete.
@@ -43,13 +43,13 @@ fn terms_refusal(d: u32, closed: u32, o: Open, h: MessageHeader, len: u16) -> u8
     ensures { λ r. ⌜ r ≡ termsRefusal d closed o h len ⌝ }
 {
     if 32 <= d {
-        return refusal::TRANS_OUTSIDE;
+        return refusal::TRANSACTION_OUTSIDE_WINDOW;
     }
     if word32::is_marked(closed, d) {
-        return refusal::TRANS_CLOSED;
+        return refusal::TRANSACTION_CLOSED;
     }
     if !has_same_terms(o, h) {
-        return refusal::TERMS_DIFFER;
+        return refusal::HEADER_DIFFERS;
     }
     if h.count == 0 {
         if 0 < len {
@@ -63,11 +63,11 @@ fn terms_refusal(d: u32, closed: u32, o: Open, h: MessageHeader, len: u16) -> u8
 fn address_refusal(size: usize, h: MessageHeader, len: u16) -> u8
     ensures { λ r. ⌜ r ≡ addressRefusal size h len ⌝ }
 {
-    if size < h.at as usize + len as usize {
-        return refusal::DATA_OUTSIDE;
+    if size < h.data_address as usize + len as usize {
+        return refusal::DATA_OUTSIDE_MEMORY;
     }
-    if size < h.target as usize + 4 {
-        return refusal::COMPLETION_OUTSIDE;
+    if size < h.completion_address as usize + 4 {
+        return refusal::COMPLETION_OUTSIDE_MEMORY;
     }
     0
 }

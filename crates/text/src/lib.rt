@@ -4,7 +4,7 @@
 ghost use mathlib.Core.Path.{_≡_};
 ghost use mathlib.Core.List.{[], _∷_};
 ghost use Prim.Native.Nat.{_^_, _≤_, _<_};
-ghost use Rattle.decimal.specs.Decimal.{decimal};
+ghost use Rattle.text_answer.specs.Decimal.{decimal};
 ghost use Rattle.io.specs.Digits.{digits};
 ghost use Rattle.text.specs.Pieces.{from, put, putAll, bytePiece, bytesPieces};
 

@@ -8,7 +8,7 @@ use native.Mathlib.Omega.{arith}
 use borrow.Author.Tests.{le-leb, lt-leb, leb-false, eq-eqb, ne-eqb, eqb-true}
 use lib.Dec.{eqb}
 use Rattle.seq.specs.Ring.{distance, transSpace}
-use Rattle.marks.specs.Marks.{mark}
+use Rattle.bitmap.specs.Marks.{mark}
 use Rattle.wire.specs.declared.MessageHeader.{MessageHeader}
 use Rattle.wire.specs.Format.{needed}
 use Rattle.wire.proofs.Format.{needed-count}

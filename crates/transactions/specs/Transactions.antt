@@ -6,7 +6,7 @@ use mathlib.Core.List.{List}
 use lib.Dec.{eqb, leb}
 use lib.ListN.{length, getD, set}
 use Rattle.seq.specs.Ring.{distance, advance, transSpace}
-use Rattle.marks.specs.Marks.{withMark, leadingOnes}
+use Rattle.bitmap.specs.Marks.{withMark, trailingOnes}
 use Rattle.wire.specs.declared.MessageHeader.{MessageHeader}
 use Rattle.wire.specs.Format.{Message, headOf, needed}
 use Rattle.terms.specs.declared.Open.{Open}
@@ -25,7 +25,7 @@ refusing r lowest closed o = record { refusal = r; done = false; lowest = record
 unfoldable pub closing : ℕ → ℕ → ℕ → Verdict
 closing lowest closed d =
     let marked = withMark 32 closed d in
-    let run = leadingOnes 32 marked in
+    let run = trailingOnes 32 marked in
     record {
       refusal = 0;
       done = true;
@@ -40,7 +40,7 @@ holding lowest closed o h = record {
   done = false;
   lowest = record { 0 = lowest };
   closed = closed;
-  place = record { count = h .count; target = h .target; value = h .value; received = suc (o .received) };
+  place = record { count = h .count; address = h .«completion_address»; value = h .«completion_value»; received = suc (o .received) };
 }
 
 abbrev pub decided : ℕ → ℕ → ℕ → ℕ → Open → MessageHeader → Verdict

@@ -1,6 +1,6 @@
 // What one message does to its transaction at the host: the verdict on its header, and the state that it leaves. Assumes nothing
 // of the state, which may be one that no run reaches. It promises specs/Transactions.antt, verdictOf.
-use marks::word32;
+use bitmap::word32;
 use seq::TransNo;
 use terms::Open;
 use wire::MessageHeader;
@@ -22,7 +22,7 @@ fn closed_after(lowest: TransNo, closed: u32, d: u32) -> Verdict
     ensures { λ r. ⌜ r ≡ closing (lowest .0) closed d ⌝ }
 {
     let marked = word32::with_mark(closed, d);
-    let run = word32::leading_ones(marked);
+    let run = word32::trailing_ones(marked);
     Verdict {
         refusal: 0,
         done: true,
@@ -67,8 +67,8 @@ pub fn judge(
         closed,
         place: Open {
             count: h.count,
-            target: h.target,
-            value: h.value,
+            address: h.completion_address,
+            value: h.completion_value,
             received,
         },
     }

@@ -48,10 +48,10 @@ use Rattle.wire.proofs.Format.{
 -- a message whose numbers fit the fields of its header
 pub record Fits (m : Message) : Type 0 where
   pub trans-fits : m .trans < transSpace
-  pub target-fits : m .target < transSpace
-  pub value-fits : m .value < transSpace
+  pub address-fits : m .completionAddress < transSpace
+  pub value-fits : m .completionValue < transSpace
   pub count-fits : m .count < frameSpace
-  pub at-fits : m .at < transSpace
+  pub at-fits : m .dataAddress < transSpace
   pub bytes-fit : length (m .bytes) < frameSpace
 
 abbrev pub AllFit : List Message → Type 0
@@ -65,7 +65,7 @@ unfolding messageAt
 message-fits f at b =
     record {
       trans-fits = field-lt f at 4 b;
-      target-fits = field-lt f (at + 4) 4 b;
+      address-fits = field-lt f (at + 4) 4 b;
       value-fits = field-lt f (at + 8) 4 b;
       count-fits = field-lt f (at + 12) 2 b;
       at-fits = field-lt f (at + 16) 4 b;
@@ -119,15 +119,15 @@ module _ (before : List ℕ) (m : Message) (f : Fits m) (trailing : ℕ) (rest :
   unfolding messageAt frame front field messageHead little
   message-back =
       same (at-start 4 ∙ value-little 4 (m .trans) (f .trans-fits))
-      (field-behind before front 4 4 ∙ value-little 4 (m .target) (f .target-fits))
-      (field-behind before front 8 4 ∙ value-little 4 (m .value) (f .value-fits))
+      (field-behind before front 4 4 ∙ value-little 4 (m .completionAddress) (f .address-fits))
+      (field-behind before front 8 4 ∙ value-little 4 (m .completionValue) (f .value-fits))
       (field-behind before front 12 2 ∙ value-little 2 (m .count) (f .count-fits))
-      (field-behind before front 16 4 ∙ value-little 4 (m .at) (f .at-fits))
+      (field-behind before front 16 4 ∙ value-little 4 (m .dataAddress) (f .at-fits))
       data-part
     where
       same : {a a′ b b′ c c′ d d′ e e′ : ℕ} {x x′ : List ℕ} → a ≡ a′ → b ≡ b′ → c ≡ c′ → d ≡ d′ → e ≡ e′ → x ≡ x′
-          → _≡_ {A = Message} (record { trans = a; target = b; value = c; count = d; at = e; bytes = x })
-          (record { trans = a′; target = b′; value = c′; count = d′; at = e′; bytes = x′ })
+          → _≡_ {A = Message} (record { trans = a; completionAddress = b; completionValue = c; count = d; dataAddress = e; bytes = x })
+          (record { trans = a′; completionAddress = b′; completionValue = c′; count = d′; dataAddress = e′; bytes = x′ })
       same p q r s t u = cc
 
   fits-frame : leb (dataEnd frame (length before)) (length frame) ≡ true

@@ -6,34 +6,34 @@ use mathlib.Core.List.{List}
 use lib.Dec.{eqb, ltb}
 use Rattle.wire.specs.declared.MessageHeader.{MessageHeader}
 
--- One message: its transaction's number, the completion's address (`target`) and value, the count of data messages, and its
--- own write, `bytes` at the address `at`.
+-- One message: its transaction's number, the completion's address and value, the count of data messages, and its
+-- own write, `bytes` at the data address.
 pub record Message : Type 0 where
   pub trans : ℕ
-  pub target : ℕ
-  pub value : ℕ
+  pub completionAddress : ℕ
+  pub completionValue : ℕ
   pub count : ℕ
-  pub at : ℕ
+  pub dataAddress : ℕ
   pub bytes : List ℕ
 
 -- The same where code holds the header as a struct and the data as a slice.
 unfoldable pub carrying : MessageHeader → List ℕ → Message
 carrying h bytes = record {
   trans = h .trans .0;
-  target = h .target;
-  value = h .value;
+  completionAddress = h .«completion_address»;
+  completionValue = h .«completion_value»;
   count = h .count;
-  at = h .at;
+  dataAddress = h .«data_address»;
   bytes = bytes;
 }
 
 unfoldable pub headOf : Message → MessageHeader
 headOf m = record {
   trans = record { 0 = m .trans };
-  target = m .target;
-  value = m .value;
+  «completion_address» = m .completionAddress;
+  «completion_value» = m .completionValue;
   count = m .count;
-  at = m .at;
+  «data_address» = m .dataAddress;
 }
 
 -- The messages that a transaction takes: as many as its count, and one bare one for count 0.

@@ -47,10 +47,10 @@ dataEnd f at = at + 24 + field f (at + 20) 2
 unfoldable pub messageAt : List ℕ → ℕ → Message
 messageAt f at = record {
   trans = field f at 4;
-  target = field f (at + 4) 4;
-  value = field f (at + 8) 4;
+  completionAddress = field f (at + 4) 4;
+  completionValue = field f (at + 8) 4;
   count = field f (at + 12) 2;
-  at = field f (at + 16) 4;
+  dataAddress = field f (at + 16) 4;
   bytes = take (field f (at + 20) 2) (drop (at + 24) f);
 }
 

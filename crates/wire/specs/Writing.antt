@@ -17,8 +17,8 @@ frameHead to from num start count flag =
 -- A message header with its trailing byte. Unused fields are zero.
 unfoldable pub messageHead : Message → ℕ → List ℕ
 messageHead m trailing =
-    little 4 (m .trans) ++ (little 4 (m .target) ++ (little 4 (m .value) ++ (little 2 (m .count) ++ (little 2 0 ++
-    (little 4 (m .at) ++ (little 2 (length (m .bytes)) ++ (little 1 0 ++ little 1 trailing)))))))
+    little 4 (m .trans) ++ (little 4 (m .completionAddress) ++ (little 4 (m .completionValue) ++ (little 2 (m .count) ++ (little 2 0 ++
+    (little 4 (m .dataAddress) ++ (little 2 (length (m .bytes)) ++ (little 1 0 ++ little 1 trailing)))))))
 
 -- Where the data of a message ends whose header stands at an offset.
 abbrev pub endOf : ℕ → Message → ℕ

@@ -1,6 +1,6 @@
 // The wire format: its types, and where the next header goes. Assumes nothing. It promises specs/Format.antt; what a frame's
 // bytes mean is specs/Reading.antt and specs/Writing.antt, that what is written reads back is proofs/RoundTrip.antt, and the
-// crates reader, headers and writer have the code.
+// crates wire_read, headers and writer have the code.
 use seq::FrameNo;
 use seq::TransNo;
 ghost use mathlib.Core.Path.{_≡_};
@@ -37,8 +37,8 @@ pub fn next_header(end: usize) -> usize
 // it has, and the address of this one's data. The data's length is that of a slice beside it.
 pub struct MessageHeader {
     pub trans: TransNo,
-    pub target: u32,
-    pub value: u32,
+    pub completion_address: u32,
+    pub completion_value: u32,
     pub count: u16,
-    pub at: u32,
+    pub data_address: u32,
 }

@@ -7,7 +7,7 @@ use Prim.Native.Nat.{ℕ, _≤_}
 use borrow.Author.Tests.{le-leb}
 use lib.Dec.{leb}
 use lib.ListN.{length}
-use Rattle.answer_line.specs.AnswerLine.{lineText, fitsLine, withLine, lineEnd}
+use Rattle.text_answer.specs.AnswerLine.{lineText, fitsLine, withLine, lineEnd}
 use Rattle.text.specs.Pieces.{Filled, from, put, putAll}
 
 pub line-piece : (out : List ℕ) (at letter : ℕ) (ns : List ℕ) {last : List ℕ} {e : ℕ} → length ns ≤ 8

@@ -5,7 +5,7 @@ use mathlib.Core.List.{List, [], _∷_}
 use lib.Dec.{eqb}
 use Rattle.io.specs.Digits.{digits}
 use Rattle.buffer.specs.Digest.{digestOf}
-use Rattle.answer_line.specs.AnswerLine.{lineText}
+use Rattle.text_answer.specs.AnswerLine.{lineText}
 
 -- A word, and a newline.
 abbrev pub wordLine : List ℕ → List (List ℕ)

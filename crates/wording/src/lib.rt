@@ -19,7 +19,7 @@ pub fn put_numbered(out: &mut [u8], at: usize, letter: u8, n: u64) -> usize
     ensures { λ _. ⌜ now (out .exit) ≡ putAll (from (now (out .entry)) at) (numberLine letter n) .out ⌝ }
 {
     let numbers = [n];
-    answer_line::put_line(out, at, letter, &numbers)
+    text_answer::put_line(out, at, letter, &numbers)
 }
 
 // `ok`, or the refusal.

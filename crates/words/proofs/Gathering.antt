@@ -11,7 +11,7 @@ use borrow.Author.Tests.{eq-eqb, ne-eqb, lt-ltb, le-ltb}
 use lib.Dec.{eqb}
 use lib.ListN.{length, drop, getD, set, length-set, length-drop, drop-of-length-le}
 use lib.Seq.{drop-cons}
-use Rattle.hexline.specs.Line.{upToNewline, hasNewline}
+use Rattle.hex_line.specs.Line.{upToNewline, hasNewline}
 use Rattle.words.specs.Lines.{Kept, kept, keepAll, gatheredFrom}
 
 pub record Gathers (line₀ piece : List ℕ) (from len₀ : ℕ) (line : List ℕ) (len at : ℕ) : Type 0 where

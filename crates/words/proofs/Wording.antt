@@ -13,11 +13,11 @@ use borrow.Author.Tests.{eq-eqb, ne-eqb, eqb-true, le-leb, lt-leb, lt-ltb, le-lt
 use lib.Dec.{eqb, leb, ltb}
 use lib.ListN.{length, take, drop, getD, length-drop, drop-of-length-le}
 use lib.Seq.{drop-cons}
-use Rattle.hexline.specs.Line.{within, digit, joined, decode, upToNewline, hasNewline}
-use Rattle.hexline.specs.Taking.{State, start, after, refusedLine, takenFrom, frameAfter}
-use Rattle.hexline.specs.declared.Taken.{Taken}
-use Rattle.hexline.proofs.Taking.{all-of-it}
-use Rattle.hexline.proofs.Decoding.{Spelled, line-spelled, line-refused}
+use Rattle.hex_line.specs.Line.{within, digit, joined, decode, upToNewline, hasNewline}
+use Rattle.hex_line.specs.Taking.{State, start, after, refusedLine, takenFrom, frameAfter}
+use Rattle.hex_line.specs.declared.Taken.{Taken}
+use Rattle.hex_line.proofs.Taking.{all-of-it}
+use Rattle.hex_line.proofs.Decoding.{Spelled, line-spelled, line-refused}
 use Rattle.words.specs.declared.Number.{Number}
 use Rattle.words.specs.declared.Bytes.{Bytes}
 use Rattle.words.specs.Words.{

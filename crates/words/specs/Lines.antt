@@ -4,8 +4,8 @@ use mathlib.Core.Bool.{cond}
 use mathlib.Core.List.{List, [], _∷_}
 use lib.Dec.{eqb, ltb}
 use lib.ListN.{set}
-use Rattle.hexline.specs.Line.{upToNewline, hasNewline}
-use Rattle.hexline.specs.Taking.{behind}
+use Rattle.hex_line.specs.Line.{upToNewline, hasNewline}
+use Rattle.hex_line.specs.Taking.{behind}
 use Rattle.words.specs.declared.Gathered.{Gathered}
 
 -- The characters so far: how many are kept, and the buffer that has them. A character past the buffer's end is counted and stored

@@ -5,8 +5,8 @@ use mathlib.Core.List.{List, [], _∷_}
 use mathlib.Core.Option.{Option, none, some}
 use lib.Dec.{eqb, leb, ltb}
 use lib.ListN.{length, drop}
-use Rattle.hexline.specs.Line.{within, decode}
-use Rattle.hexline.specs.Taking.{start, frameAfter}
+use Rattle.hex_line.specs.Line.{within, decode}
+use Rattle.hex_line.specs.Taking.{start, frameAfter}
 use Rattle.words.specs.declared.Number.{Number}
 use Rattle.words.specs.declared.Bytes.{Bytes}
 

@@ -1,11 +1,11 @@
 // Lines of a script as characters: gathered from pieces of the input, cut into words, and a word read as a number or as bytes.
 // Assumes nothing: any characters get an answer. It promises what specs/Lines.antt and specs/Words.antt say, and every byte of
 // the buffers lent.
-use hexline::Line;
+use hex_line::Line;
 ghost use mathlib.Core.Path.{_≡_};
 ghost use mathlib.Core.Option.{none};
 ghost use lib.ListN.{length, drop};
-ghost use Rattle.hexline.specs.Line.{upToNewline};
+ghost use Rattle.hex_line.specs.Line.{upToNewline};
 ghost use Rattle.words.specs.Lines.{kept, keepAll, gatheredFrom};
 ghost use Rattle.words.specs.Words.{wordEnd, sameText, noNumber, numberIn, spelled, spelledBytes, frameWith};
 
@@ -161,7 +161,7 @@ pub fn bytes_in(word: &[u8], frame: &mut [u8]) -> Bytes
     if is_same(word, b"-") {
         return Bytes { len: 0, good: true };
     }
-    let taken = hexfeed::take_in(Line::start(), frame, word, 0);
+    let taken = hex_feed::take_in(Line::start(), frame, word, 0);
     let line = taken.line;
     if taken.ended {
         return none_spelled();

@@ -3,7 +3,7 @@
 use mathlib.Core.Path.{_≡_}
 use borrow.Author.Tests.{eq-eqb, ne-eqb}
 use Rattle.wire.specs.Reading.{addressed, readFrame, refusalOf}
-use Rattle.reader.specs.Finding.{headerOf}
+use Rattle.wire_read.specs.Finding.{headerOf}
 use Rattle.card.specs.Card.{acknowledged, readAcks}
 use borrow.Author.Needs.{needs}
 use Rattle.acknowledgements.proofs.read_acknowledgements.Statement.{statement}
@@ -11,8 +11,8 @@ use Rattle.acknowledgements.proofs.read_acknowledgements.Tie as tie
 use Rattle.acknowledgements.proofs.read_acknowledgements.Reads as reads
 use Rattle.acknowledgements.proofs.read_acknowledgements.Lts as lts
 use Rattle.acknowledgements.proofs.acknowledge.Reads as acknowledge-reads
-use Rattle.reader.proofs.frame_header.Reads as frame-header-reads
-use Rattle.layout.proofs.refusal_of.Reads as refusal-of-reads
+use Rattle.wire_read.proofs.frame_header.Reads as frame-header-reads
+use Rattle.wire_layout.proofs.refusal_of.Reads as refusal-of-reads
 
 refusal-of-requires : tie.Need-refusal-of-requires
 refusal-of-requires c κs = search needs

@@ -6,8 +6,8 @@ use Rattle.assembly.proofs.write_in_slot.Statement.{statement}
 use Rattle.assembly.proofs.write_in_slot.Tie as tie
 use Rattle.assembly.proofs.write_in_slot.Reads as reads
 use Rattle.assembly.proofs.write_in_slot.Lts as lts
-use Rattle.writer.proofs.write_first.Reads as write-first-reads
-use Rattle.writer.proofs.write_next.Reads as write-next-reads
+use Rattle.wire_write.proofs.write_first.Reads as write-first-reads
+use Rattle.wire_write.proofs.write_next.Reads as write-next-reads
 
 write-first-requires : tie.Need-write-first-requires
 write-first-requires c κs = search needs

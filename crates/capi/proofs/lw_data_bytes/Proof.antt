@@ -6,8 +6,8 @@ use Rattle.capi.proofs.lw_data_bytes.Statement.{statement}
 use Rattle.capi.proofs.lw_data_bytes.Tie as tie
 use Rattle.capi.proofs.lw_data_bytes.Reads as reads
 use Rattle.capi.proofs.lw_data_bytes.Lts as lts
-use Rattle.layout.proofs.Layout.data_bytes.Reads as data-bytes-reads
-use Rattle.layout.proofs.layout_of.Reads as layout-of-reads
+use Rattle.wire_layout.proofs.Layout.data_bytes.Reads as data-bytes-reads
+use Rattle.wire_layout.proofs.layout_of.Reads as layout-of-reads
 
 layout-of-requires : tie.Need-layout-of-requires
 layout-of-requires c κs = search needs

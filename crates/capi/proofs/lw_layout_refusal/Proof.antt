@@ -6,8 +6,8 @@ use Rattle.capi.proofs.lw_layout_refusal.Statement.{statement}
 use Rattle.capi.proofs.lw_layout_refusal.Tie as tie
 use Rattle.capi.proofs.lw_layout_refusal.Reads as reads
 use Rattle.capi.proofs.lw_layout_refusal.Lts as lts
-use Rattle.layout.proofs.Layout.refusal.Reads as refusal-reads
-use Rattle.layout.proofs.layout_of.Reads as layout-of-reads
+use Rattle.wire_layout.proofs.Layout.refusal.Reads as refusal-reads
+use Rattle.wire_layout.proofs.layout_of.Reads as layout-of-reads
 
 layout-of-requires : tie.Need-layout-of-requires
 layout-of-requires c κs = search needs

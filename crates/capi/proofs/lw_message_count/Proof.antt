@@ -6,8 +6,8 @@ use Rattle.capi.proofs.lw_message_count.Statement.{statement}
 use Rattle.capi.proofs.lw_message_count.Tie as tie
 use Rattle.capi.proofs.lw_message_count.Reads as reads
 use Rattle.capi.proofs.lw_message_count.Lts as lts
-use Rattle.layout.proofs.Layout.messages.Reads as messages-reads
-use Rattle.layout.proofs.layout_of.Reads as layout-of-reads
+use Rattle.wire_layout.proofs.Layout.messages.Reads as messages-reads
+use Rattle.wire_layout.proofs.layout_of.Reads as layout-of-reads
 
 layout-of-requires : tie.Need-layout-of-requires
 layout-of-requires c κs = search needs

@@ -3,10 +3,10 @@
 use mathlib.Core.List.{List, [], _∷_, _++_}
 use Prim.Native.Nat.{ℕ, _*_, _%_}
 use native.Mathlib.Omega.{arith}
-use Rattle.decimal.specs.Decimal.{decimal}
+use Rattle.text_answer.specs.Decimal.{decimal}
 use Rattle.card.proofs.Slots.{slot-low}
 use Rattle.wire.specs.Reading.{number}
-use Rattle.reader.specs.Finding.{headerOf}
+use Rattle.wire_read.specs.Finding.{headerOf}
 use Rattle.text.specs.Pieces.{from, bytesPieces}
 use Rattle.text.proofs.Pieces.{one, then}
 use Rattle.card_calls.specs.CardCalls.{slotLine}
@@ -15,7 +15,7 @@ use Rattle.card_calls.proofs.put_slot.Statement.{statement}
 use Rattle.card_calls.proofs.put_slot.Tie as tie
 use Rattle.card_calls.proofs.put_slot.Reads as reads
 use Rattle.card_calls.proofs.put_slot.Lts as lts
-use Rattle.reader.proofs.frame_header.Reads as frame-header-reads
+use Rattle.wire_read.proofs.frame_header.Reads as frame-header-reads
 use Rattle.text.proofs.put_bytes.Reads as put-bytes-reads
 use Rattle.text.proofs.put_field.Reads as put-field-reads
 use Rattle.text.proofs.put_word.Reads as put-word-reads

@@ -6,7 +6,7 @@ use native.Mathlib.Omega.{arith}
 use borrow.Author.Needs.{needs}
 use borrow.Author.Tests.{not-true, not-false}
 use lib.ListN.{length, replicate}
-use Rattle.reader.proofs.Finding.{is-whole}
+use Rattle.wire_read.proofs.Finding.{is-whole}
 use Rattle.judging.proofs.Judging.{Steady, steady-start, steady-turn}
 use Rattle.closing.proofs.Walk.{
   closing-long,
@@ -22,7 +22,7 @@ use Rattle.closing.proofs.judge_closing.Tie as tie
 use Rattle.closing.proofs.judge_closing.Reads as reads
 use Rattle.closing.proofs.judge_closing.Lts as lts
 use Rattle.closing.proofs.leaves_no_trace.Reads as leaves-no-trace-reads
-use Rattle.reader.proofs.message_at.Reads as message-at-reads
+use Rattle.wire_read.proofs.message_at.Reads as message-at-reads
 use Rattle.transactions.proofs.judge.Reads as judge-reads
 
 abbrev Inv-loop : tie.InvT-loop

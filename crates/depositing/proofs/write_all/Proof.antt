@@ -4,7 +4,7 @@ use mathlib.Core.Path.{sym, _∙_}
 use Prim.Native.Nat.{_-_}
 use native.Mathlib.Omega.{arith}
 use borrow.Author.Needs.{needs}
-use Rattle.reader.proofs.Finding.{is-whole}
+use Rattle.wire_read.proofs.Finding.{is-whole}
 use Rattle.depositing.proofs.Depositing.{
   written-long,
   carrying-is,
@@ -21,9 +21,9 @@ use Rattle.depositing.proofs.write_all.Tie as tie
 use Rattle.depositing.proofs.write_all.Reads as reads
 use Rattle.depositing.proofs.write_all.Lts as lts
 use Rattle.depositing.proofs.write_message.Reads as write-message-reads
-use Rattle.marks.proofs.word64.is_marked.Reads as is-marked-reads
-use Rattle.reader.proofs.data_at.Reads as data-at-reads
-use Rattle.reader.proofs.message_at.Reads as message-at-reads
+use Rattle.bitmap.proofs.word64.is_marked.Reads as is-marked-reads
+use Rattle.wire_read.proofs.data_at.Reads as data-at-reads
+use Rattle.wire_read.proofs.message_at.Reads as message-at-reads
 
 abbrev Inv-loop : tie.InvT-loop
 Inv-loop f memory₀ n due at₀ i₀ memory at i = Writing f memory₀ n due memory at i

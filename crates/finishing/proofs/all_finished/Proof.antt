@@ -5,13 +5,13 @@ use mathlib.Core.Logic.{⊎-elim}
 use Prim.Native.Nat.{_-_}
 use native.Mathlib.Omega.{arith}
 use borrow.Author.Needs.{needs}
-use Rattle.marks.proofs.Marks.{MarkedUpTo, none-marked, one-more, all-marked}
+use Rattle.bitmap.proofs.Marks.{MarkedUpTo, none-marked, one-more, all-marked}
 use Rattle.sendings.specs.Sendings.{finishedBy}
 use Rattle.finishing.proofs.all_finished.Statement.{statement}
 use Rattle.finishing.proofs.all_finished.Tie as tie
 use Rattle.finishing.proofs.all_finished.Reads as reads
 use Rattle.finishing.proofs.all_finished.Lts as lts
-use Rattle.marks.proofs.word32.with_mark.Reads as with-mark-reads
+use Rattle.bitmap.proofs.word32.with_mark.Reads as with-mark-reads
 use Rattle.finishing.proofs.is_finished.Reads as is-finished-reads
 
 abbrev Inv-loop : tie.InvT-loop

@@ -4,14 +4,14 @@ use mathlib.Core.Path.{_≡_, _∙_}
 use Prim.Native.Nat.{_+_, _%_}
 use native.Mathlib.Omega.{arith}
 use borrow.Author.Tests.{lt-ltb, le-ltb}
-use Rattle.marks.specs.Marks.{mark}
+use Rattle.bitmap.specs.Marks.{mark}
 use Rattle.sendings.specs.Sendings.{finishedBy}
 use borrow.Author.Needs.{needs}
 use Rattle.finishing.proofs.is_finished.Statement.{statement}
 use Rattle.finishing.proofs.is_finished.Tie as tie
 use Rattle.finishing.proofs.is_finished.Reads as reads
 use Rattle.finishing.proofs.is_finished.Lts as lts
-use Rattle.marks.proofs.word32.is_marked.Reads as is-marked-reads
+use Rattle.bitmap.proofs.word32.is_marked.Reads as is-marked-reads
 use Rattle.finishing.proofs.is_delivered.Reads as is-delivered-reads
 use Rattle.seq.proofs.TransNo.distance.Reads as distance-reads
 

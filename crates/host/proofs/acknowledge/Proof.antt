@@ -7,7 +7,7 @@ use Rattle.host.proofs.acknowledge.Tie as tie
 use Rattle.host.proofs.acknowledge.Reads as reads
 use Rattle.host.proofs.acknowledge.Lts as lts
 use Rattle.host.proofs.range_of.Reads as range-of-reads
-use Rattle.headers.proofs.ack_frame.Reads as ack-frame-reads
+use Rattle.wire_headers.proofs.ack_frame.Reads as ack-frame-reads
 
 range-of-requires : tie.Need-range-of-requires
 range-of-requires c κs = search needs

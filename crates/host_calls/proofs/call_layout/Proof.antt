@@ -3,7 +3,7 @@
 use mathlib.Core.List.{[], _∷_}
 use native.Mathlib.Omega.{arith}
 use Rattle.wire.specs.Reading.{destination, source, number, ackStart, ackCount, flags}
-use Rattle.reader.specs.Finding.{headerOf}
+use Rattle.wire_read.specs.Finding.{headerOf}
 use Rattle.wording.proofs.Wording.{line-piece}
 use Rattle.host_calls.specs.HostCalls.{layoutLine}
 use borrow.Author.Needs.{needs}
@@ -11,9 +11,9 @@ use Rattle.host_calls.proofs.call_layout.Statement.{statement}
 use Rattle.host_calls.proofs.call_layout.Tie as tie
 use Rattle.host_calls.proofs.call_layout.Reads as reads
 use Rattle.host_calls.proofs.call_layout.Lts as lts
-use Rattle.answer_line.proofs.put_line.Reads as put-line-reads
-use Rattle.layout.proofs.layout_of.Reads as layout-of-reads
-use Rattle.reader.proofs.frame_header.Reads as frame-header-reads
+use Rattle.text_answer.proofs.put_line.Reads as put-line-reads
+use Rattle.wire_layout.proofs.layout_of.Reads as layout-of-reads
+use Rattle.wire_read.proofs.frame_header.Reads as frame-header-reads
 use Rattle.wording.proofs.put_numbered.Reads as put-numbered-reads
 
 layout-of-requires : tie.Need-layout-of-requires

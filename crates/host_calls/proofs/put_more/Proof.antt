@@ -1,7 +1,7 @@
 -- `host_calls::put_more`: by cases of the answer.
 -- Assumes nothing.
 use mathlib.Core.List.{[], _∷_}
-use Rattle.decimal.specs.Decimal.{decimal}
+use Rattle.text_answer.specs.Decimal.{decimal}
 use Rattle.text.specs.Pieces.{from}
 use Rattle.text.proofs.Pieces.{one, then}
 use Rattle.host_calls.specs.HostCalls.{morePieces}

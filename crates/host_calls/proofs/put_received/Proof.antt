@@ -8,7 +8,7 @@ use Rattle.host_calls.proofs.put_received.Tie as tie
 use Rattle.host_calls.proofs.put_received.Reads as reads
 use Rattle.host_calls.proofs.put_received.Lts as lts
 use Rattle.host_calls.proofs.put_more.Reads as put-more-reads
-use Rattle.report.proofs.put_answer.Reads as put-answer-reads
+use Rattle.replay_line.proofs.put_answer.Reads as put-answer-reads
 
 put-answer-requires : tie.Need-put-answer-requires
 put-answer-requires c κs = search needs

@@ -6,7 +6,7 @@ use native.Mathlib.Omega.{arith}
 use borrow.Author.Needs.{needs}
 use borrow.Author.Tests.{not-true, not-false}
 use lib.ListN.{length}
-use Rattle.reader.proofs.Finding.{is-whole}
+use Rattle.wire_read.proofs.Finding.{is-whole}
 use Rattle.judging.proofs.Judging.{
   judged-long,
   Judging,
@@ -27,7 +27,7 @@ use Rattle.judging.proofs.counted.Reads as counted-reads
 use Rattle.judging.proofs.noted.Reads as noted-reads
 use Rattle.judging.proofs.passed.Reads as passed-reads
 use Rattle.judging.proofs.refused_at.Reads as refused-at-reads
-use Rattle.reader.proofs.message_at.Reads as message-at-reads
+use Rattle.wire_read.proofs.message_at.Reads as message-at-reads
 use Rattle.transactions.proofs.judge.Reads as judge-reads
 
 abbrev Inv-loop : tie.InvT-loop

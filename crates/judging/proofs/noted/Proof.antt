@@ -7,7 +7,7 @@ use Rattle.judging.proofs.noted.Statement.{statement}
 use Rattle.judging.proofs.noted.Tie as tie
 use Rattle.judging.proofs.noted.Reads as reads
 use Rattle.judging.proofs.noted.Lts as lts
-use Rattle.marks.proofs.word64.with_mark.Reads as with-mark-reads
+use Rattle.bitmap.proofs.word64.with_mark.Reads as with-mark-reads
 
 with-mark-requires : tie.Need-with-mark-requires
 with-mark-requires c κs = search needs

@@ -2,7 +2,7 @@
 -- Assumes nothing.
 use mathlib.Core.Path.{_∙_}
 use mathlib.Core.List.{[], _∷_, _++_}
-use Rattle.decimal.specs.Decimal.{decimal}
+use Rattle.text_answer.specs.Decimal.{decimal}
 use Rattle.text.specs.Pieces.{from}
 use Rattle.text.proofs.Pieces.{one, then}
 use Rattle.pair_text.specs.PairText.{openPieces}

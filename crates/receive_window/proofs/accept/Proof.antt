@@ -2,15 +2,15 @@
 -- Assumes nothing.
 use native.Mathlib.Omega.{arith}
 use Rattle.host.specs.Host.{accepting}
-use Rattle.marks.proofs.Marks.{ones-le}
+use Rattle.bitmap.proofs.Marks.{ones-le}
 use borrow.Author.Needs.{needs}
 use Rattle.receive_window.proofs.accept.Statement.{statement}
 use Rattle.receive_window.proofs.accept.Tie as tie
 use Rattle.receive_window.proofs.accept.Reads as reads
 use Rattle.receive_window.proofs.accept.Lts as lts
-use Rattle.marks.proofs.word64.leading_ones.Reads as leading-ones-reads
-use Rattle.marks.proofs.word64.shifted.Reads as shifted-reads
-use Rattle.marks.proofs.word64.with_mark.Reads as with-mark-reads
+use Rattle.bitmap.proofs.word64.trailing_ones.Reads as trailing-ones-reads
+use Rattle.bitmap.proofs.word64.shifted.Reads as shifted-reads
+use Rattle.bitmap.proofs.word64.with_mark.Reads as with-mark-reads
 use Rattle.seq.proofs.FrameNo.advance.Reads as advance-reads
 use Rattle.seq.proofs.FrameNo.distance.Reads as distance-reads
 
@@ -23,11 +23,11 @@ cast-with-mark c = search needs
 with-mark-requires : tie.Need-with-mark-requires
 with-mark-requires c κs = search needs
 
-leading-ones-requires : tie.Need-leading-ones-requires
-leading-ones-requires c κs = search needs
+trailing-ones-requires : tie.Need-trailing-ones-requires
+trailing-ones-requires c κs = search needs
 
 cast-advance : tie.Need-cast-advance
-cast-advance c = omega (arith, c .leading-ones .ensures, ones-le 64 (c .before .with-mark .result))
+cast-advance c = omega (arith, c .trailing-ones .ensures, ones-le 64 (c .before .with-mark .result))
 
 advance-requires : tie.Need-advance-requires
 advance-requires c κs = search needs
@@ -41,7 +41,7 @@ returns c =
     rw (
       c .before .advance .ensures,
       c .shifted .ensures,
-      c .before .before .leading-ones .ensures,
+      c .before .before .trailing-ones .ensures,
       c .before .before .before .with-mark .ensures,
       c .before .before .before .before .distance .ensures,
     )
@@ -53,7 +53,7 @@ accept-spec =
     distance-requires
     cast-with-mark
     with-mark-requires
-    leading-ones-requires
+    trailing-ones-requires
     cast-advance
     advance-requires
     shifted-requires

@@ -10,7 +10,7 @@ use Rattle.receive_window.proofs.answer_by_number.Reads as reads
 use Rattle.receive_window.proofs.answer_by_number.Lts as lts
 use Rattle.receive_window.proofs.again.Reads as again-reads
 use Rattle.receive_window.proofs.refusing.Reads as refusing-reads
-use Rattle.layout.proofs.refusal_of.Reads as refusal-of-reads
+use Rattle.wire_layout.proofs.refusal_of.Reads as refusal-of-reads
 
 refusal-of-requires : tie.Need-refusal-of-requires
 refusal-of-requires c κs = search needs

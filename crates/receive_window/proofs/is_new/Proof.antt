@@ -3,14 +3,14 @@
 use mathlib.Core.Path.{_≡_, sym, _∙_}
 use mathlib.Core.Bool.{true, false}
 use borrow.Author.Tests.{le-leb, lt-leb}
-use Rattle.marks.specs.Marks.{mark}
+use Rattle.bitmap.specs.Marks.{mark}
 use Rattle.receive_window.specs.Answers.{isNew}
 use borrow.Author.Needs.{needs}
 use Rattle.receive_window.proofs.is_new.Statement.{statement}
 use Rattle.receive_window.proofs.is_new.Tie as tie
 use Rattle.receive_window.proofs.is_new.Reads as reads
 use Rattle.receive_window.proofs.is_new.Lts as lts
-use Rattle.marks.proofs.word64.is_marked.Reads as is-marked-reads
+use Rattle.bitmap.proofs.word64.is_marked.Reads as is-marked-reads
 
 returns : tie.Need-returns
 unfolding isNew

@@ -9,7 +9,7 @@ use Rattle.receive_window.proofs.refuse.Tie as tie
 use Rattle.receive_window.proofs.refuse.Reads as reads
 use Rattle.receive_window.proofs.refuse.Lts as lts
 use Rattle.receive_window.proofs.refusing.Reads as refusing-reads
-use Rattle.layout.proofs.refusal_of.Reads as refusal-of-reads
+use Rattle.wire_layout.proofs.refusal_of.Reads as refusal-of-reads
 
 refusal-of-requires : tie.Need-refusal-of-requires
 refusal-of-requires c κs = search needs

@@ -10,7 +10,7 @@ use Rattle.seq.specs.Ring.{distance, frameSpace}
 use Rattle.wire.specs.declared.FrameHeader.{FrameHeader}
 use Rattle.wire.specs.Reading.{addressed}
 use Rattle.wire.proofs.Reading.{Framed, heading-stops, heading-stands, read-none}
-use Rattle.reader.specs.Finding.{headerOf}
+use Rattle.wire_read.specs.Finding.{headerOf}
 use Rattle.host.specs.declared.Pair.{Pair}
 use Rattle.host.specs.Host.{Received, steppedOf}
 use Rattle.reception.specs.Reception.{Awaited}
@@ -28,8 +28,8 @@ use Rattle.receive_window.proofs.refusing.Reads as refusing-reads
 use Rattle.reception.proofs.take_closing.Reads as take-closing-reads
 use Rattle.reception.proofs.take_in.Reads as take-in-reads
 use Rattle.receive_window.proofs.is_new.Reads as is-new-reads
-use Rattle.reader.proofs.frame_header.Reads as frame-header-reads
-use Rattle.heading.proofs.heading_refusal.Reads as heading-refusal-reads
+use Rattle.wire_read.proofs.frame_header.Reads as frame-header-reads
+use Rattle.wire_layout.proofs.heading_refusal.Reads as heading-refusal-reads
 use Rattle.seq.proofs.FrameNo.distance.Reads as distance-reads
 
 -- a frame with messages that passed the checks of its heading

@@ -5,13 +5,13 @@ use mathlib.Core.Logic.{⊎-elim}
 use Prim.Native.Nat.{_-_}
 use native.Mathlib.Omega.{arith}
 use borrow.Author.Needs.{needs}
-use Rattle.marks.proofs.Marks.{MarkedUpTo, none-marked, one-more, all-marked}
+use Rattle.bitmap.proofs.Marks.{MarkedUpTo, none-marked, one-more, all-marked}
 use Rattle.send_window.specs.Window.{acknowledgedBy}
 use Rattle.releasing.proofs.acknowledged.Statement.{statement}
 use Rattle.releasing.proofs.acknowledged.Tie as tie
 use Rattle.releasing.proofs.acknowledged.Reads as reads
 use Rattle.releasing.proofs.acknowledged.Lts as lts
-use Rattle.marks.proofs.word64.with_mark.Reads as with-mark-reads
+use Rattle.bitmap.proofs.word64.with_mark.Reads as with-mark-reads
 use Rattle.releasing.proofs.is_acknowledged.Reads as is-acknowledged-reads
 
 abbrev Inv-loop : tie.InvT-loop

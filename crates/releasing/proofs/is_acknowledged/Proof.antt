@@ -8,7 +8,7 @@ use Rattle.releasing.proofs.is_acknowledged.Statement.{statement}
 use Rattle.releasing.proofs.is_acknowledged.Tie as tie
 use Rattle.releasing.proofs.is_acknowledged.Reads as reads
 use Rattle.releasing.proofs.is_acknowledged.Lts as lts
-use Rattle.marks.proofs.word64.is_marked.Reads as is-marked-reads
+use Rattle.bitmap.proofs.word64.is_marked.Reads as is-marked-reads
 use Rattle.send_window.proofs.SendWindow.unreleased.Reads as unreleased-reads
 use Rattle.seq.proofs.FrameNo.advance.Reads as advance-reads
 use Rattle.seq.proofs.FrameNo.distance.Reads as distance-reads

@@ -6,11 +6,11 @@ use Rattle.replay.proofs.answer_ended.Statement.{statement}
 use Rattle.replay.proofs.answer_ended.Tie as tie
 use Rattle.replay.proofs.answer_ended.Reads as reads
 use Rattle.replay.proofs.answer_ended.Lts as lts
-use Rattle.hexline.proofs.Line.start.Reads as start-reads
+use Rattle.hex_line.proofs.Line.start.Reads as start-reads
 use Rattle.replay.proofs.make_room.Reads as make-room-reads
-use Rattle.report.proofs.Totals.with.Reads as with-reads
-use Rattle.report.proofs.answer_line.Reads as answer-line-reads
-use Rattle.report.proofs.put_answer.Reads as put-answer-reads
+use Rattle.replay_line.proofs.Totals.with.Reads as with-reads
+use Rattle.replay_line.proofs.answer_line.Reads as answer-line-reads
+use Rattle.replay_line.proofs.put_answer.Reads as put-answer-reads
 
 answer-line-requires : tie.Need-answer-line-requires
 answer-line-requires c κs = search needs

@@ -7,15 +7,15 @@ use native.Mathlib.Omega.{arith}
 use borrow.Author.Needs.{needs}
 use borrow.Author.Tests.{ltb-true}
 use lib.ListN.{length, drop}
-use Rattle.hexline.specs.declared.Line.{Line}
-use Rattle.hexline.specs.declared.Taken.{Taken}
-use Rattle.hexline.specs.Taking.{takenFrom}
-use Rattle.hexline.proofs.Taking.{taken-further}
+use Rattle.hex_line.specs.declared.Line.{Line}
+use Rattle.hex_line.specs.declared.Taken.{Taken}
+use Rattle.hex_line.specs.Taking.{takenFrom}
+use Rattle.hex_line.proofs.Taking.{taken-further}
 use Rattle.replay.proofs.take_piece.Statement.{statement}
 use Rattle.replay.proofs.take_piece.Tie as tie
 use Rattle.replay.proofs.take_piece.Reads as reads
 use Rattle.replay.proofs.take_piece.Lts as lts
-use Rattle.hexfeed.proofs.take_in.Reads as take-in-reads
+use Rattle.hex_feed.proofs.take_in.Reads as take-in-reads
 use Rattle.replay.proofs.answer_ended.Reads as answer-ended-reads
 
 -- what was taken in ends further on

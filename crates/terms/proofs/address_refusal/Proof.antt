@@ -20,7 +20,7 @@ returns : tie.Need-returns
 unfolding addressRefusal
 returns c =
     let a = c .before .before .args in
-    rw (lt-ltb (a .size) (a .h .at + a .len) (omega (arith, c .if1 .taken)))
+    rw (lt-ltb (a .size) (a .h .«data_address» + a .len) (omega (arith, c .if1 .taken)))
 
 cast-if2 : tie.Need-cast-if2
 cast-if2 c = search needs
@@ -34,8 +34,8 @@ returns-2 c =
     let s = c .before .before in
     let a = s .before .before .args in
     rw (
-      le-ltb (a .size) (a .h .at + a .len) (omega (arith, s .if1 .left)),
-      lt-ltb (a .size) (a .h .target + 4) (omega (arith, c .if2 .taken)),
+      le-ltb (a .size) (a .h .«data_address» + a .len) (omega (arith, s .if1 .left)),
+      lt-ltb (a .size) (a .h .«completion_address» + 4) (omega (arith, c .if2 .taken)),
     )
 
 returns-3 : tie.Need-returns-3
@@ -44,8 +44,8 @@ returns-3 c =
     let s = c .before .before in
     let a = s .before .before .args in
     rw (
-      le-ltb (a .size) (a .h .at + a .len) (omega (arith, s .if1 .left)),
-      le-ltb (a .size) (a .h .target + 4) (omega (arith, c .if2 .left)),
+      le-ltb (a .size) (a .h .«data_address» + a .len) (omega (arith, s .if1 .left)),
+      le-ltb (a .size) (a .h .«completion_address» + 4) (omega (arith, c .if2 .left)),
     )
 
 pub address-refusal-spec : {M : Type 1} → statement M

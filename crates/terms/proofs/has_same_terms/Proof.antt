@@ -26,7 +26,7 @@ returns-3 c =
     rw (
       ne-eqb (a .o .received) 0 (c6 .if1 .left),
       eq-eqb (a .o .count) (a .h .count) (c .before .before .before .if2 .left),
-      ne-eqb (a .o .target) (a .h .target) (c .if3 .taken),
+      ne-eqb (a .o .address) (a .h .«completion_address») (c .if3 .taken),
     )
 
 returns-4 : tie.Need-returns-4
@@ -38,7 +38,7 @@ returns-4 c =
     rw (
       ne-eqb (a .o .received) 0 (c8 .if1 .left),
       eq-eqb (a .o .count) (a .h .count) (c5 .if2 .left),
-      eq-eqb (a .o .target) (a .h .target) (c .before .before .if3 .left),
+      eq-eqb (a .o .address) (a .h .«completion_address») (c .before .before .if3 .left),
     )
 
 pub has-same-terms-spec : {M : Type 1} → statement M

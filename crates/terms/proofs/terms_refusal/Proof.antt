@@ -6,7 +6,7 @@ use Prim.Native.Nat.{ℕ, _<_}
 use native.Mathlib.Omega.{arith}
 use borrow.Author.Tests.{le-leb, lt-leb, lt-ltb, le-ltb, eq-eqb, ne-eqb}
 use lib.Dec.{eqb, ltb}
-use Rattle.marks.specs.Marks.{mark}
+use Rattle.bitmap.specs.Marks.{mark}
 use Rattle.wire.specs.declared.MessageHeader.{MessageHeader}
 use Rattle.terms.specs.declared.Open.{Open}
 use Rattle.terms.specs.Terms.{agrees, termsRefusal}
@@ -15,7 +15,7 @@ use Rattle.terms.proofs.terms_refusal.Statement.{statement}
 use Rattle.terms.proofs.terms_refusal.Tie as tie
 use Rattle.terms.proofs.terms_refusal.Reads as reads
 use Rattle.terms.proofs.terms_refusal.Lts as lts
-use Rattle.marks.proofs.word32.is_marked.Reads as is-marked-reads
+use Rattle.bitmap.proofs.word32.is_marked.Reads as is-marked-reads
 use Rattle.terms.proofs.has_same_terms.Reads as has-same-terms-reads
 
 -- neither 7 nor 8 nor 9: the test for 10 is left

@@ -1,7 +1,7 @@
 -- `text::put_decimal`: the digits that the library gives are the number's.
 -- Assumes nothing.
 use mathlib.Core.Path.{_∙_}
-use Rattle.decimal.proofs.Decimal.{decimal-is}
+use Rattle.text_answer.proofs.Decimal.{decimal-is}
 use Rattle.text.specs.Pieces.{from}
 use Rattle.text.proofs.Pieces.{same-piece}
 use borrow.Author.Needs.{needs}

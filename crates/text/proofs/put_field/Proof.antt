@@ -1,7 +1,7 @@
 -- `text::put_field`: the number stands behind the word.
 -- Assumes nothing.
 use mathlib.Core.List.{[], _∷_}
-use Rattle.decimal.specs.Decimal.{decimal}
+use Rattle.text_answer.specs.Decimal.{decimal}
 use Rattle.text.specs.Pieces.{from}
 use Rattle.text.proofs.Pieces.{one, then}
 use borrow.Author.Needs.{needs}

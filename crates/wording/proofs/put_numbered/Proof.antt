@@ -8,7 +8,7 @@ use Rattle.wording.proofs.put_numbered.Statement.{statement}
 use Rattle.wording.proofs.put_numbered.Tie as tie
 use Rattle.wording.proofs.put_numbered.Reads as reads
 use Rattle.wording.proofs.put_numbered.Lts as lts
-use Rattle.answer_line.proofs.put_line.Reads as put-line-reads
+use Rattle.text_answer.proofs.put_line.Reads as put-line-reads
 
 slice-aggregate-put-line : tie.Need-slice-aggregate-put-line
 slice-aggregate-put-line c = search needs

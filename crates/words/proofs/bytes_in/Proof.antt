@@ -7,9 +7,9 @@ use Rattle.words.proofs.bytes_in.Statement.{statement}
 use Rattle.words.proofs.bytes_in.Tie as tie
 use Rattle.words.proofs.bytes_in.Reads as reads
 use Rattle.words.proofs.bytes_in.Lts as lts
-use Rattle.hexline.proofs.Line.is_refused.Reads as is-refused-reads
-use Rattle.hexline.proofs.Line.start.Reads as start-reads
-use Rattle.hexfeed.proofs.take_in.Reads as take-in-reads
+use Rattle.hex_line.proofs.Line.is_refused.Reads as is-refused-reads
+use Rattle.hex_line.proofs.Line.start.Reads as start-reads
+use Rattle.hex_feed.proofs.take_in.Reads as take-in-reads
 use Rattle.words.proofs.is_same.Reads as is-same-reads
 use Rattle.words.proofs.none_spelled.Reads as none-spelled-reads
 

@@ -8,7 +8,7 @@ use Rattle.send_window.proofs.SendWindow.holds.Statement.{statement}
 use Rattle.send_window.proofs.SendWindow.holds.Tie as tie
 use Rattle.send_window.proofs.SendWindow.holds.Reads as reads
 use Rattle.send_window.proofs.SendWindow.holds.Lts as lts
-use Rattle.marks.proofs.word64.is_marked.Reads as is-marked-reads
+use Rattle.bitmap.proofs.word64.is_marked.Reads as is-marked-reads
 use Rattle.send_window.proofs.SendWindow.unreleased.Reads as unreleased-reads
 use Rattle.seq.proofs.FrameNo.distance.Reads as distance-reads
 

@@ -1,0 +1,43 @@
+-- What a line of the replay is answered, the text of that answer, and the totals.
+use Prim.Native.Nat.{ℕ, _+_, _%_, _^_}
+use mathlib.Core.Bool.{cond}
+use mathlib.Core.List.{List, [], _∷_}
+use lib.ListN.{take}
+use Rattle.hex_line.specs.declared.Line.{Line}
+use Rattle.hex_line.specs.Taking.{refusedLine}
+use Rattle.text_answer.specs.AnswerLine.{lineEnd, withLine}
+use Rattle.host.specs.declared.Pair.{Pair}
+use Rattle.host.specs.declared.Answer.{Answer}
+use Rattle.host.specs.declared.Answer.the-variants.{Accepted, Again, NoMessages, Refused}
+use Rattle.host.specs.Host.{Received, unchanged, refused, receiveOf}
+use Rattle.replay_line.specs.declared.Totals.{Totals}
+
+-- A line that is no frame gets 14, before all others; any other is received as the bytes that it spells, which stand at the start
+-- of the frame buffer.
+unfoldable pub answeredLine : Pair → Line → List ℕ → List ℕ → Received
+answeredLine p line frame memory =
+    cond (refusedLine line) (unchanged p memory (refused 14 0)) (receiveOf p (take (line .len) frame) memory)
+
+-- The letter and the numbers of an answer's line: A, G, N or R.
+abbrev pub letterOf : Answer → ℕ
+letterOf (Accepted n sums) = 65
+letterOf (Again n) = 71
+letterOf NoMessages = 78
+letterOf (Refused r) = 82
+
+abbrev pub numbersOf : Answer → List ℕ
+numbersOf (Accepted n sums) = n .0 ∷ sums .messages ∷ sums .bytes ∷ sums .completed ∷ []
+numbersOf (Again n) = n .0 ∷ []
+numbersOf NoMessages = []
+numbersOf (Refused r) = r .number ∷ []
+
+-- The totals after one more answer: sums over accepted frames, in 64 bits.
+abbrev pub totalled : Totals → Answer → Totals
+totalled t (Accepted n sums) = record {
+  messages = (t .messages + sums .messages) % 2 ^ 64;
+  bytes = (t .bytes + sums .bytes) % 2 ^ 64;
+  completed = (t .completed + sums .completed) % 2 ^ 64;
+}
+totalled t (Again n) = t
+totalled t NoMessages = t
+totalled t (Refused r) = t

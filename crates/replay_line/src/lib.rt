@@ -1,0 +1,85 @@
+// What the replay says of one line: the host's answer to the frame that it spells, the answer's text, and the totals. Assumes
+// nothing. It promises what specs/Report.antt says; proofs/Lines.antt shows it for the line's characters.
+use hex_line::Line;
+use host::Answer;
+use host::Pair;
+use host::Refusal;
+use host::Stepped;
+ghost use mathlib.Core.Path.{_≡_};
+ghost use mathlib.Core.List.{[], _∷_};
+ghost use Rattle.text_answer.specs.AnswerLine.{lineEnd, withLine};
+ghost use Rattle.host.specs.Host.{steppedOf};
+ghost use Rattle.replay_line.specs.Report.{answeredLine, letterOf, numbersOf, totalled};
+
+// Sums over accepted frames.
+pub struct Totals {
+    pub messages: u64,
+    pub bytes: u64,
+    pub completed: u64,
+}
+
+// Answers a line that has ended, its bytes at the start of frame.
+pub fn answer_line(pair: Pair, line: Line, frame: &[u8], memory: &mut [u8]) -> Stepped
+    ensures { λ r. ⌜ r ≡ steppedOf (answeredLine pair line (now (frame .entry)) (now (memory .entry))) ⌝ }
+    ensures { λ _. ⌜ now (memory .exit) ≡ answeredLine pair line (now (frame .entry)) (now (memory .entry)) .memory ⌝ }
+{
+    if line.is_refused() {
+        return Stepped {
+            pair,
+            answer: Answer::Refused(Refusal {
+                number: refusal::BAD_LINE,
+                place: 0,
+            }),
+        };
+    }
+    reception::receive(pair, buffer::front(frame, line.len), memory)
+}
+
+// Writes an answer's line into out from at on, and answers the index behind it; where it does not fit, nothing is written and the
+// answer is at.
+pub fn put_answer(out: &mut [u8], at: usize, answer: Answer) -> usize
+    ensures { λ r. ⌜ r ≡ lineEnd (now (out .entry)) at (letterOf answer) (numbersOf answer) ⌝ }
+    ensures { λ _. ⌜ now (out .exit) ≡ withLine (now (out .entry)) at (letterOf answer) (numbersOf answer) ⌝ }
+{
+    match answer {
+        Answer::Accepted(n, s) => {
+            let numbers = [
+                n.0 as u64,
+                s.messages as u64,
+                s.bytes as u64,
+                s.completed as u64,
+            ];
+            text_answer::put_line(out, at, b'A', &numbers)
+        }
+        Answer::Again(n) => {
+            let numbers = [n.0 as u64];
+            text_answer::put_line(out, at, b'G', &numbers)
+        }
+        Answer::NoMessages => {
+            let numbers = [0u64; 0];
+            text_answer::put_line(out, at, b'N', &numbers)
+        }
+        Answer::Refused(r) => {
+            let numbers = [r.number as u64];
+            text_answer::put_line(out, at, b'R', &numbers)
+        }
+    }
+}
+
+impl Totals {
+    // The totals after one more answer.
+    pub fn with(self, answer: Answer) -> Totals
+        ensures { λ r. ⌜ r ≡ totalled self answer ⌝ }
+    {
+        match answer {
+            Answer::Accepted(_, s) => Totals {
+                messages: std::num::wrapping_add_u64(self.messages, s.messages as u64),
+                bytes: std::num::wrapping_add_u64(self.bytes, s.bytes as u64),
+                completed: std::num::wrapping_add_u64(self.completed, s.completed as u64),
+            },
+            Answer::Again(_) => self,
+            Answer::NoMessages => self,
+            Answer::Refused(_) => self,
+        }
+    }
+}
