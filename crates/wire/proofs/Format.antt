@@ -8,7 +8,7 @@ use borrow.Author.Tests.{lt-ltb, le-ltb, ne-eqb}
 use lib.ListN.{length, length-append, length-replicate}
 use Rattle.octets.specs.Octets.{little}
 use Rattle.wire.specs.Format.{Message, needed, nextHeader, headerAfter}
-use Rattle.wire.specs.Writing.{frameHead, messageHead, endOf, gapAt, laid, frameOf}
+use Rattle.wire.specs.Writing.{frameHead, messageHead, endOf, gapAt, laid, flagsFor, frameOf}
 
 -- a transaction takes as many messages as its count, and one for count 0
 pub needed-pos : (count : ℕ) → 1 ≤ needed count
@@ -42,13 +42,13 @@ pub next-gap : (end : ℕ) → nextHeader end ≤ end + 10
 unfolding nextHeader
 next-gap end = omega arith
 
-pub header-after : (end : ℕ) → end < 2 ^ 63 → headerAfter end ≡ nextHeader end
-unfolding headerAfter
-header-after end h = rw (lt-ltb end (2 ^ 63) h)
+pub header-after : (end : ℕ) → end ≤ 18446744073709551610 → headerAfter end ≡ nextHeader end
+unfolding headerAfter nextHeader
+header-after end h = rw (lt-ltb (nextHeader end) 18446744073709551616 (omega arith))
 
-pub no-header-after : (end : ℕ) → 2 ^ 63 ≤ end → headerAfter end ≡ 0
-unfolding headerAfter
-no-header-after end h = rw (le-ltb end (2 ^ 63) h)
+pub no-header-after : (end : ℕ) → 18446744073709551610 < end → headerAfter end ≡ 0
+unfolding headerAfter nextHeader
+no-header-after end h = rw (le-ltb (nextHeader end) 18446744073709551616 (omega arith))
 
 pub length-gap : (end : ℕ) → length (gapAt end) ≡ nextHeader end - end
 length-gap end = length-replicate (nextHeader end - end) 0
@@ -133,4 +133,5 @@ count-laid at (m ∷ (n ∷ ms)) =
 pub length-frame : (to from num : ℕ) (ms : List Message) → length (frameOf to from num ms) ≡ 10 + length (laid 10 ms)
 unfolding frameOf
 length-frame to from num ms =
-    omega (arith, length-append (frameHead to from num 0 0 1) (laid 10 ms), length-frameHead to from num 0 0 1)
+    let flag = flagsFor ms in
+    omega (arith, length-append (frameHead to from num 0 0 flag) (laid 10 ms), length-frameHead to from num 0 0 flag)

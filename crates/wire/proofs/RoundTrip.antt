@@ -33,7 +33,7 @@ use Rattle.wire.specs.Reading.{
   readFrame,
   acknowledges,
 }
-use Rattle.wire.specs.Writing.{frameHead, messageHead, endOf, gapAt, laid, frameOf, ackFrame}
+use Rattle.wire.specs.Writing.{frameHead, messageHead, endOf, gapAt, laid, flagsFor, frameOf, ackFrame}
 use Rattle.wire.proofs.Reading.{Headed, unread, headed, read-messages}
 use Rattle.wire.proofs.Format.{
   length-frameHead,
@@ -166,9 +166,10 @@ messages-back (suc k) before m (n ∷ ms) h f fs =
 
 -- ---- a frame with messages
 
-pub frame-flags : (to from num : ℕ) (ms : List Message) → flags (frameOf to from num ms) ≡ 1
+pub frame-flags : (to from num : ℕ) (ms : List Message) → flags (frameOf to from num ms) ≡ flagsFor ms
 unfolding frameOf frameHead field little value
-frame-flags to from num ms = refl
+frame-flags to from num [] = refl
+frame-flags to from num (m ∷ ms) = refl
 
 module _ (to from num : ℕ) (to-fits : to < frameSpace) (from-fits : from < frameSpace) (num-fits : num < frameSpace)
     (ms : List Message) where

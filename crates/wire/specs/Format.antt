@@ -44,9 +44,9 @@ needed count = cond (eqb count 0) 1 count
 unfoldable pub nextHeader : ℕ → ℕ
 nextHeader end = 10 + (end - 10 + 7) / 8 * 8
 
--- The same where code asks it of any machine word: 0 for an end that no slice has.
+-- The same where code asks it of a word of 64 bits: 0 where the offset does not fit one.
 unfoldable pub headerAfter : ℕ → ℕ
-headerAfter end = cond (ltb end (2 ^ 63)) (nextHeader end) 0
+headerAfter end = cond (ltb (nextHeader end) (2 ^ 64)) (nextHeader end) 0
 
 -- The longest frame there is.
 abbrev pub frameMost : ℕ

@@ -35,13 +35,19 @@ laid at (m ∷ []) = messageHead m 0 ++ m .bytes
 laid at (m ∷ (n ∷ ms)) =
     messageHead m 1 ++ (m .bytes ++ (gapAt (endOf at m) ++ laid (nextHeader (endOf at m)) (n ∷ ms)))
 
+-- The flags: bit 0 is set exactly if there is at least one message, and no other bit ever.
+abbrev pub flagsFor : List Message → ℕ
+flagsFor [] = 0
+flagsFor (m ∷ ms) = 1
+
 -- A frame with messages: it acknowledges nothing.
 unfoldable pub frameOf : ℕ → ℕ → ℕ → List Message → List ℕ
-frameOf to from num ms = frameHead to from num 0 0 1 ++ laid 10 ms
+frameOf to from num ms = frameHead to from num 0 0 (flagsFor ms) ++ laid 10 ms
 
--- An acknowledgement frame: `count` numbers from `start` on. Where it acknowledges none, the start is written 0.
+-- An acknowledgement frame: no messages, and `count` numbers acknowledged from `start` on. Where it acknowledges none, the start is
+-- written 0.
 unfoldable pub ackFrame : ℕ → ℕ → ℕ → ℕ → ℕ → List ℕ
-ackFrame to from num start count = frameHead to from num (cond (eqb count 0) 0 start) count 0
+ackFrame to from num start count = frameHead to from num (cond (eqb count 0) 0 start) count (flagsFor [])
 
 -- ---- building a frame in a slot
 
@@ -52,7 +58,9 @@ roomFor slot size = leb size (length slot) && leb size frameMost
 -- The first message: the frame header and the message, from the slot's start on.
 unfoldable pub firstMessage : List ℕ → ℕ → ℕ → ℕ → Message → List ℕ
 firstMessage slot to from num m =
-    cond (roomFor slot (endOf 10 m)) (sets slot 0 (frameHead to from num 0 0 1 ++ (messageHead m 0 ++ m .bytes))) slot
+    cond (roomFor slot (endOf 10 m)) 
+    (sets slot 0 (frameHead to from num 0 0 (flagsFor (m ∷ [])) ++ (messageHead m 0 ++ m .bytes)))
+    slot
 
 -- One message more behind a frame of `used` bytes whose last message header stands at `last`: the trailing byte there
 -- becomes 1, the gap zeros, and the message follows.

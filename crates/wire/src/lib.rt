@@ -19,12 +19,14 @@ pub struct FrameHeader {
     pub flags: u8,
 }
 
-// Message headers stand at offsets of the form 10 + 8k: the first of these that is not before end. 0 for an end that no slice
-// has.
+// The last offset of the form 10 + 8k that a word holds.
+const LAST_HEADER: usize = 18446744073709551610;
+
+// Message headers stand at offsets of the form 10 + 8k: the first of these that is not before end. 0 where no word holds it.
 pub fn next_header(end: usize) -> usize
     ensures { λ r. ⌜ r ≡ headerAfter end ⌝ }
 {
-    if 9223372036854775808 <= end {
+    if LAST_HEADER < end {
         return 0;
     }
     if end < 10 {

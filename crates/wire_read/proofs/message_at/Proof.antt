@@ -1,6 +1,6 @@
 -- `wire_read::message_at`: the three ways past the end, and the message found.
 -- Assumes nothing.
-use Prim.Native.Nat.{_+_, _^_, _<_}
+use Prim.Native.Nat.{_+_, _≤_}
 use native.Mathlib.Omega.{arith}
 use Rattle.octets.proofs.Octets.{field-1}
 use Rattle.wire.specs.Reading.{follows, dataEnd}
@@ -57,7 +57,7 @@ unfolding follows
 returns-4 c =
     let a = c .before .before .before .before .before .before .before .before .args in
     let len = c .before .before .before .before .u16-in .ensures in
-    let end-fits : dataEnd (a .f .now) (a .at) < 2 ^ 63 = omega (arith, len) in
+    let end-fits : dataEnd (a .f .now) (a .at) ≤ 18446744073709551610 = omega (arith, len) in
     rw (
       c .before .before .header-in .ensures,
       c .next-header .ensures,
