@@ -1,5 +1,5 @@
--- Demand 3: any call keeps system and book in agreement, two fresh ends agree with the empty book, and so a list's end does.
--- Assumes nothing.
+-- Demand 3: any call keeps system and book in agreement, two fresh ends agree with the empty book, and so a list's end
+-- does. Assumes nothing.
 use Prim.Native.Nat.{ℕ, _+_, _%_, _<_}
 use native.Mathlib.Nat.{mod-lt, not-suc-le-zero}
 use native.Mathlib.Omega.{arith}
@@ -14,13 +14,14 @@ use Rattle.bitmap.proofs.Marks.{mark-of-zero, leading-le}
 use Rattle.terms.specs.Terms.{free}
 use Rattle.host.specs.declared.Opened.{Opened}
 use Rattle.host.specs.Host.{fresh, openedOf}
-use Rattle.send_window.specs.Window.{emptyWindow}
+use Rattle.send_window.specs.Window.{emptyWindow, unreleased}
 use Rattle.sendings.specs.Sendings.{noSending, noSendings}
 use Rattle.card.specs.declared.Stepped.{Stepped}
 use Rattle.card.specs.Card.{freshCard, fits, cardRefusal, openCard}
 use Rattle.delivery.specs.Book.{
   Book,
   frameAt,
+  releasedCount,
   messagesIn,
   ofTransaction,
   perform,
@@ -37,12 +38,7 @@ use Rattle.delivery.specs.System.{
   Implementation,
   specified,
   Event,
-  opens,
-  adds,
-  seals,
-  reads,
-  shows,
-  chooses,
+  calls,
   receives,
   System,
   byCard,
@@ -65,25 +61,21 @@ use Rattle.delivery.specs.Demand3.{
   Demand3For,
   Demand3,
 }
-use Rattle.delivery.proofs.Sound.{released-accepted}
-use Rattle.delivery.proofs.Steps.{sound-empty}
-use Rattle.delivery.proofs.AllFinished.{whole-memory, whole-complete, whole-bytes, whole-messages}
-use Rattle.delivery.proofs.Earlier.{allowed-before}
-use Rattle.delivery.proofs.HostStep.{place, fullAt, full-beyond}
-use Rattle.delivery.proofs.CardFor.{unreleased-is, unopened}
+use Rattle.delivery.proofs.Book.Sound.{released-accepted}
+use Rattle.delivery.proofs.Book.Steps.{sound-empty}
+use Rattle.delivery.proofs.Book.Answers.{timesExpected, times-seen}
+use Rattle.delivery.proofs.Book.AllFinished.{whole-memory, whole-complete, whole-bytes, whole-messages}
+use Rattle.delivery.proofs.Book.Earlier.{allowed-before}
+use Rattle.delivery.proofs.Host.HostStep.{place, fullAt, full-beyond}
+use Rattle.delivery.proofs.Card.CardFor.{unreleased-is, unopened}
 use Rattle.delivery.proofs.Agree.{SystemFor}
-use Rattle.delivery.proofs.CardSteps.{step-opens, step-adds, step-seals, step-reads, step-shows, step-chooses}
-use Rattle.delivery.proofs.Receive.{step-receives}
+use Rattle.delivery.proofs.Card.CardSteps.{step-card}
+use Rattle.delivery.proofs.Host.Receive.{step-receives}
 
 -- an observation tells its own call
 pub seen-event : (e : Implementation) (w : System) (x : Event) → step e w x .observation .event ≡ x
 unfolding step byCard byHost
-seen-event e w (opens count address value) = refl
-seen-event e w (adds t at bytes) = refl
-seen-event e w seals = refl
-seen-event e w (reads k) = refl
-seen-event e w (shows n) = refl
-seen-event e w (chooses ack) = refl
+seen-event e w (calls x) = refl
 seen-event e w (receives k) = refl
 
 module _ (cardId hostId : ℕ) (cardFits : cardId < frameSpace) (hostFits : hostId < frameSpace) where
@@ -93,22 +85,19 @@ module _ (cardId hostId : ℕ) (cardFits : cardId < frameSpace) (hostFits : host
   -- ---- any call
 
   -- One step of these ends keeps system and book in agreement.
-  abbrev pub Keeps : Implementation → Type 0
-  Keeps e = (w : System) (b : Book) → For w b → (x : Event) → typed x ≡ true → inTime b x ≡ true
-      → WritesAllowed (bookStep b (step e w x .observation)) → For (step e w x .system) (bookStep b (step e w x .observation))
+  abbrev pub KeepsAgreement : Implementation → Type 0
+  KeepsAgreement e = (w : System) (b : Book) → For w b → (x : Event) → typed x ≡ true → inTime b x ≡ true
+      → WritesAllowed (bookStep b (step e w x .observation))
+      → For (step e w x .system) (bookStep b (step e w x .observation))
 
-  pub step-any : Keeps specified
-  step-any w b f (opens count address value) t i k = step-opens cardId hostId cardFits hostFits w b f count address value t
-  step-any w b f (adds n at bytes) t i k = step-adds cardId hostId cardFits hostFits w b f n at bytes t
-  step-any w b f seals t i k = step-seals cardId hostId cardFits hostFits w b f
-  step-any w b f (reads n) t i k = step-reads cardId hostId cardFits hostFits w b f n i
-  step-any w b f (shows n) t i k = step-shows cardId hostId cardFits hostFits w b f n t
-  step-any w b f (chooses ack) t i k = step-chooses cardId hostId cardFits hostFits w b f ack
+  pub step-any : KeepsAgreement specified
+  unfolding step typed inTime
+  step-any w b f (calls x) t i k = step-card cardId hostId cardFits hostFits w b f x t i
   step-any w b f (receives n) t i k = step-receives cardId hostId cardFits hostFits w b f n i k
 
   -- ---- a list
 
-  pub all-steps : (e : Implementation) → Keeps e → (events : List Event) (w : System) (b : Book) → For w b
+  pub all-steps : (e : Implementation) → KeepsAgreement e → (events : List Event) (w : System) (b : Book) → For w b
       → allTyped events ≡ true → notTooLate b (run e w events .observations) ≡ true
       → WritesAllowed (bookFrom b (run e w events .observations))
       → For (run e w events .system) (bookFrom b (run e w events .observations))
@@ -121,34 +110,41 @@ module _ (cardId hostId : ℕ) (cardFits : cardId < frameSpace) (hostFits : host
       let timely = and-eq-true-iff (inTime b (s .observation .event)) (notTooLate b′ later) .0 i in
       let fitting = and-eq-true-iff (typed x) (allTyped xs) .0 t in
       all-steps e h xs (s .system) b′
-      (h w b f x (fitting .0)
-      (subst (λ (y : Event). inTime b y ≡ true) (seen-event e w x) (timely .0)) (allowed-before b′ later k))
+      (h w b f x (fitting .0) (subst (λ (y : Event). inTime b y ≡ true) (seen-event e w x) (timely .0))
+      (allowed-before b′ later k))
       (fitting .1) (timely .1) k
 
   -- what agreement comes to
   guaranteed : (w : System) (b : Book) → For w b → Guarantees (outcomeOf w) b
   guaranteed w b f = record {
-    answersMatch = f .rest .matching;
-    acceptedOnce = λ c e. f .rest .once c ∙ rw e refl;
-    releasedAgrees =
-        omega (
-          arith,
-          leading-le (λ c. frameAt b c .acknowledged) (length (b .frames)),
-          unreleased-is (w .card) (w .slots) b (f .cardFor) (f .sound),
-        );
-    releasedAccepted = released-accepted b (f .sound);
+    answersMatch = f .rest .traffic .matching;
+    acceptedOnce = once;
+    releasedAccepted = λ c h. once c (released-accepted b (f .sound) c (omega (arith, released)));
+    releasedAgrees = released;
     noneOver = f .sound .atMost;
     memoryAgrees = rw (f .rest .memoryIs) refl;
-    messagesAgree = f .rest .messagesAre;
-    bytesAgree = f .rest .bytesAre;
-    completeAgree = f .rest .completeAre;
+    messagesAgree = f .rest .sums .messagesAre;
+    bytesAgree = f .rest .sums .bytesAre;
+    completeAgree = f .rest .sums .completeAre;
     whenAllFinished = λ all. record {
-      messagesWhole = f .rest .messagesAre ∙ whole-messages b (f .sound) all;
-      bytesWhole = f .rest .bytesAre ∙ whole-bytes b (f .sound) all;
-      completeWhole = f .rest .completeAre ∙ whole-complete b (f .sound) all;
+      messagesWhole = f .rest .sums .messagesAre ∙ whole-messages b (f .sound) all;
+      bytesWhole = f .rest .sums .bytesAre ∙ whole-bytes b (f .sound) all;
+      completeWhole = f .rest .sums .completeAre ∙ whole-complete b (f .sound) all;
       memoryInTurn = f .rest .memoryIs ∙ whole-memory b (f .sound) all;
     };
   }
+    where
+      once : (c : ℕ) → frameAt b c .accepted ≡ true → timesAccepted c (w .answers) (b .expected) ≡ 1
+      once c e = times-seen c (w .answers) (b .expected) (f .rest .traffic .matching) ∙ f .rest .traffic .once c
+          ∙ rw e refl
+
+      released : length (b .frames) ≡ releasedCount b + unreleased (w .card .window)
+      released =
+          omega (
+            arith,
+            leading-le (λ c. frameAt b c .acknowledged) (length (b .frames)),
+            unreleased-is (w .card) (w .slots) b (f .cardFor) (f .sound),
+          )
 
   -- ---- two fresh ends
 
@@ -201,7 +197,8 @@ module _ (cardId hostId : ℕ) (cardFits : cardId < frameSpace) (hostFits : host
         answers = [];
       })
       (emptyBook memory)
-  unfolding freshCard emptyWindow noSendings fresh emptyBook bookMemory messagesIn leading perform bookWrites timesAccepted
+  unfolding freshCard emptyWindow noSendings fresh emptyBook bookMemory messagesIn leading perform bookWrites
+      timesExpected
       sumOver dataBytes completeCount
   begins limit slots memory fit = record {
     cardFor = record {
@@ -235,26 +232,33 @@ module _ (cardId hostId : ℕ) (cardFits : cardId < frameSpace) (hostFits : host
       hostOwn = refl;
       hostPeer = refl;
       memoryIs = refl;
-      copies = tt;
-      acksAre = tt;
-      matching = refl;
-      once = λ c. refl;
-      messagesAre = refl;
-      bytesAre = refl;
-      completeAre = refl;
-      termsTyped = λ i h. absurd (not-suc-le-zero h);
-      messagesTyped = λ e m. absurd (List·Memᴰ·not-nil m);
+      traffic = record {
+        copies = tt;
+        acksAre = tt;
+        matching = refl;
+        once = λ c. refl;
+      };
+      sums = record {
+        messagesAre = refl;
+        bytesAre = refl;
+        completeAre = refl;
+      };
+      typed = record {
+        termsTyped = λ i h. absurd (not-suc-le-zero h);
+        messagesTyped = λ e m. absurd (List·Memᴰ·not-nil m);
+      };
     };
     sound = sound-empty memory;
   }
 
   -- These ends, once open, agree with the empty book.
-  abbrev pub Starts : Implementation → Type 0
-  Starts e = (limit : ℕ) (slots memory : List ℕ)
-      → BothOpen cardId hostId (e .cardOpening cardId hostId limit slots) (e .hostOpening hostId cardId)
+  abbrev pub StartsAgreed : Implementation → Type 0
+  StartsAgreed e = (limit : ℕ) (slots memory : List ℕ)
+      → BothOpen cardId hostId (e .cardEnd .cardOpening cardId hostId limit slots)
+      (e .hostEnd .hostOpening hostId cardId)
       → For (initial e cardId hostId limit slots memory) (emptyBook memory)
 
-  pub starts : Starts specified
+  pub starts : StartsAgreed specified
   unfolding initial
   starts limit slots memory o =
       let k = opened-card limit slots (o .cardOpens) in
@@ -262,14 +266,17 @@ module _ (cardId hostId : ℕ) (cardFits : cardId < frameSpace) (hostFits : host
 
 -- Ends that agree with the book at the start, and keep to it, meet the demand.
 pub demand3-by : (e : Implementation)
-    → ((cardId hostId : ℕ) (p : cardId < frameSpace) (q : hostId < frameSpace) → Starts cardId hostId p q e)
-    → ((cardId hostId : ℕ) (p : cardId < frameSpace) (q : hostId < frameSpace) → Keeps cardId hostId p q e) → Demand3For e
+    → ((cardId hostId : ℕ) (p : cardId < frameSpace) (q : hostId < frameSpace) → StartsAgreed cardId hostId p q e)
+    → ((cardId hostId : ℕ) (p : cardId < frameSpace) (q : hostId < frameSpace) → KeepsAgreement cardId hostId p q e)
+    → Demand3For e
 unfolding Demand3For
 demand3-by e s h cardId hostId limit slots memory events o t i k =
     let w = initial e cardId hostId limit slots memory in
-    guaranteed cardId hostId (o .cardFits) (o .hostFits) (run e w events .system) (bookOf memory (run e w events .observations))
-    (all-steps cardId hostId (o .cardFits) (o .hostFits) e (h cardId hostId (o .cardFits) (o .hostFits)) events w
-    (emptyBook memory) (s cardId hostId (o .cardFits) (o .hostFits) limit slots memory o) t i k)
+    let p = o .cardFits in
+    let q = o .hostFits in
+    guaranteed cardId hostId p q (run e w events .system) (bookOf memory (run e w events .observations))
+    (all-steps cardId hostId p q e (h cardId hostId p q) events w (emptyBook memory)
+    (s cardId hostId p q limit slots memory o) t i k)
 
 pub demand3 : Demand3
 demand3 = demand3-by specified starts step-any

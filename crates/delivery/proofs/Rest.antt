@@ -1,8 +1,7 @@
--- What is not the card: the host, memory, what was handed out and called for, and the answers, against the book; and that a call
--- on the card alone keeps them in agreement.
--- Assumes nothing.
+-- What is not the card: the host, memory, what was handed out and called for, and the answers, against the book; and
+-- that a call on the card alone keeps them in agreement. Assumes nothing.
 use Prim.Native.Nat.{ℕ, zero, suc, _+_, _-_, _%_, _≤_, _<_}
-use native.Mathlib.Decide.{decLt, ℕ-discrete}
+use native.Mathlib.Decide.{decLt}
 use native.Mathlib.Omega.{arith}
 use mathlib.Core.Path.{_≡_, refl, sym, ap, _∙_, subst}
 use mathlib.Core.Logic.{_⊎_, inl, inr}
@@ -62,30 +61,35 @@ use Rattle.delivery.specs.Book.{
   bookMemory,
   dataBytes,
   completeCount,
-  changeAt,
+  AckRange,
+  covers,
+  markWhere,
   markAcknowledged,
   enterOpening,
   enterSealing,
   enterAck,
 }
-use Rattle.delivery.specs.Demand3.{seenAs, numberedAs, timesAccepted, messagesSum, bytesSum, completeSum}
-use Rattle.delivery.proofs.Along.{Along, along-alike}
-use Rattle.delivery.proofs.Counts.{
+use Rattle.delivery.specs.Demand3.{seenAs, numberedAs, messagesSum, bytesSum, completeSum}
+use Rattle.delivery.proofs.Book.Along.{Along, along-alike}
+use Rattle.delivery.proofs.Book.Answers.{timesExpected}
+use Rattle.delivery.proofs.Book.Counts.{
   count,
   not-full,
   messagesIn-append,
-  messagesIn-change,
-  length-change,
-  getD-change-same,
-  getD-change-other,
+  none-beyond,
+  where-keeps,
+  SameMessages,
+  same-marked,
+  messagesIn-whole,
+  all-same,
 }
-use Rattle.delivery.proofs.Sound.{Sound}
-use Rattle.delivery.proofs.Steps.{withAdded, added-seal, at-end}
-use Rattle.delivery.proofs.Sums.{messages-of-frame}
-use Rattle.delivery.proofs.AllFinished.{messagesIn-some}
-use Rattle.delivery.proofs.HostStep.{TransactionsFor, fullAt, low, place, full-beyond}
-use Rattle.delivery.proofs.HostArrive.{HostFor, none-beyond}
-use Rattle.delivery.proofs.CardFor.{framed, map-known}
+use Rattle.delivery.proofs.Book.Sound.{Sound}
+use Rattle.delivery.proofs.Book.Steps.{withAdded, added-seal, at-end}
+use Rattle.delivery.proofs.Book.Sums.{messages-of-frame}
+use Rattle.delivery.proofs.Book.AllFinished.{messagesIn-some}
+use Rattle.delivery.proofs.Host.HostStep.{TransactionsFor, fullAt, low, place, full-beyond}
+use Rattle.delivery.proofs.Host.HostArrive.{HostFor}
+use Rattle.delivery.proofs.Card.CardFor.{framed, map-known}
 
 -- The numbers of a transaction and of a message fit the fields of a header.
 pub record TermsTyped (d : Transaction) : Type 0 where
@@ -96,6 +100,16 @@ pub record TermsTyped (d : Transaction) : Type 0 where
 pub record MessageTyped (e : MessageRecord) : Type 0 where
   pub at-fits : e .dataAddress < transSpace
   pub bytes-fit : length (e .bytes) < frameSpace
+
+pub record BookTyped (b : Book) : Type 0 where
+  pub termsTyped : (i : ℕ) → i < length (b .transactions) → TermsTyped (transactionAt b i)
+  pub messagesTyped : (e : MessageRecord) → List·Memᴰ e (addedMessages b) → MessageTyped e
+
+-- The sums of the accepted answers.
+pub record SumsFor (answers : List Answer) (b : Book) : Type 0 where
+  pub messagesAre : messagesSum answers ≡ length (acceptedMessages b)
+  pub bytesAre : bytesSum answers ≡ dataBytes (acceptedMessages b)
+  pub completeAre : completeSum answers ≡ completeCount 0 (b .transactions) (acceptedMessages b)
 
 module _ (cardId hostId : ℕ) where
   -- the bytes of a sealed frame, by the book
@@ -111,27 +125,30 @@ module _ (cardId hostId : ℕ) where
   abbrev pub AllCopied : Book → List (List ℕ) → List HandOut → Type 0
   AllCopied b = Along (Copied b)
 
-  -- What was called for is the acknowledgement of each frame's number.
-  abbrev pub Acknowledges : List ℕ → ℕ → Type 0
-  Acknowledges f c = f ≡ ackFrame cardId hostId 0 (c % frameSpace) 1
+  -- What was called for is the acknowledgement of the frames that the book says.
+  abbrev pub Acknowledges : List ℕ → AckRange → Type 0
+  Acknowledges f r = f ≡ ackFrame cardId hostId 0 (r .first % frameSpace) (r .many)
 
-  pub record Rest (h : Pair) (memory : List ℕ) (handOuts acks : List (List ℕ)) (answers : List Answer) (b : Book) : Type 0 where
+  -- What was handed out, called for and answered.
+  pub record TrafficFor (handOuts acks : List (List ℕ)) (answers : List Answer) (b : Book) : Type 0 where
+    pub copies : AllCopied b handOuts (b .handOuts)
+    pub acksAre : Along Acknowledges acks (b .acksDue)
+    pub matching : map seenAs answers ≡ map numberedAs (b .expected)
+    pub once : (c : ℕ) → timesExpected c (b .expected) ≡ cond (frameAt b c .accepted) 1 0
+
+  pub record Rest (h : Pair) (memory : List ℕ) (handOuts acks : List (List ℕ)) (answers : List Answer)
+      (b : Book) : Type 0 where
     pub hostFor : HostFor h b
     pub hostOwn : h .own ≡ hostId
     pub hostPeer : h .peer ≡ cardId
     pub memoryIs : memory ≡ bookMemory b
-    pub copies : AllCopied b handOuts (b .handOuts)
-    pub acksAre : Along Acknowledges acks (b .acksDue)
-    pub matching : map seenAs answers ≡ map numberedAs (b .expected)
-    pub once : (c : ℕ) → timesAccepted c (b .expected) ≡ cond (frameAt b c .accepted) 1 0
-    pub messagesAre : messagesSum answers ≡ length (acceptedMessages b)
-    pub bytesAre : bytesSum answers ≡ dataBytes (acceptedMessages b)
-    pub completeAre : completeSum answers ≡ completeCount 0 (b .transactions) (acceptedMessages b)
-    pub termsTyped : (i : ℕ) → i < length (b .transactions) → TermsTyped (transactionAt b i)
-    pub messagesTyped : (e : MessageRecord) → List·Memᴰ e (addedMessages b) → MessageTyped e
+    pub traffic : TrafficFor handOuts acks answers b
+    pub sums : SumsFor answers b
+    pub typed : BookTyped b
 
   pub copies-alike : (b b′ : Book) (fs : List (List ℕ)) (xs : List HandOut)
-      → ((c : ℕ) → List·Memᴰ (frameCopy c) xs → frameBytesOf b c ≡ frameBytesOf b′ c) → AllCopied b fs xs → AllCopied b′ fs xs
+      → ((c : ℕ) → List·Memᴰ (frameCopy c) xs → frameBytesOf b c ≡ frameBytesOf b′ c) → AllCopied b fs xs
+      → AllCopied b′ fs xs
   copies-alike b b′ fs xs same = along-alike (Copied b) (Copied b′) fs xs alike
     where
       alike : (x : HandOut) → List·Memᴰ x xs → (f : List ℕ) → Copied b f x → Copied b′ f x
@@ -156,9 +173,8 @@ module _ (cardId hostId : ℕ) where
 
   module _ (b b′ : Book) (s : Sound b) (u : Unnoticed b b′) (h : Pair) (memory : List ℕ) (handOuts acks : List (List ℕ))
       (answers : List Answer) (r : Rest h memory handOuts acks answers b) where
-    pub rest-alike : ((i : ℕ) → i < length (b′ .transactions) → TermsTyped (transactionAt b′ i))
-        → ((e : MessageRecord) → List·Memᴰ e (addedMessages b′) → MessageTyped e) → Rest h memory handOuts acks answers b′
-    rest-alike terms messages = record {
+    pub rest-alike : BookTyped b′ → Rest h memory handOuts acks answers b′
+    rest-alike typed = record {
       hostFor = record {
         nextIs = rw (u .lowSame) (r .hostFor .nextIs);
         marksAre = λ i.
@@ -169,23 +185,29 @@ module _ (cardId hostId : ℕ) where
       hostOwn = r .hostOwn;
       hostPeer = r .hostPeer;
       memoryIs = r .memoryIs ∙ sym (u .memorySame);
-      copies =
-          subst (λ (l : List HandOut). AllCopied b′ handOuts l) (sym (u .handOutsSame))
-          (copies-alike b b′ handOuts (b .handOuts) (λ c m. u .bytesSame c (s .handOutsSealed c m)) (r .copies));
-      acksAre = rw (u .acksDueSame) (r .acksAre);
-      matching = rw (u .expectedSame) (r .matching);
-      once = λ c. rw (u .expectedSame, u .acceptedSame c) (r .once c);
-      messagesAre = r .messagesAre ∙ sym (ap length (u .messagesSame));
-      bytesAre = r .bytesAre ∙ sym (ap dataBytes (u .messagesSame));
-      completeAre = r .completeAre ∙ sym (u .completeSame);
-      termsTyped = terms;
-      messagesTyped = messages;
+      traffic = record {
+        copies =
+            subst (λ (l : List HandOut). AllCopied b′ handOuts l) (sym (u .handOutsSame))
+            (copies-alike b b′ handOuts (b .handOuts) (λ c m. u .bytesSame c (s .handOutsSealed c m))
+            (r .traffic .copies));
+        acksAre = rw (u .acksDueSame) (r .traffic .acksAre);
+        matching = rw (u .expectedSame) (r .traffic .matching);
+        once = λ c. rw (u .expectedSame, u .acceptedSame c) (r .traffic .once c);
+      };
+      sums = record {
+        messagesAre = r .sums .messagesAre ∙ sym (ap length (u .messagesSame));
+        bytesAre = r .sums .bytesAre ∙ sym (ap dataBytes (u .messagesSame));
+        completeAre = r .sums .completeAre ∙ sym (u .completeSame);
+      };
+      typed = typed;
     }
 
   -- where transactions and accepted messages are the same, so is what follows from them
   same-accepted : (b b′ : Book) → b′ .start ≡ b .start → b′ .transactions ≡ b .transactions
-      → (accepted : (n : ℕ) → frameAt b′ n .accepted ≡ frameAt b n .accepted) → lowestNotAccepted b′ ≡ lowestNotAccepted b
-      → acceptedMessages b′ ≡ acceptedMessages b → ((c : ℕ) → c < length (b .frames) → frameBytesOf b c ≡ frameBytesOf b′ c)
+      → (accepted : (n : ℕ) → frameAt b′ n .accepted ≡ frameAt b n .accepted) → lowestNotAccepted b′
+      ≡ lowestNotAccepted b
+      → acceptedMessages b′ ≡ acceptedMessages b → ((c : ℕ) → c < length (b .frames) → frameBytesOf b c
+      ≡ frameBytesOf b′ c)
       → b′ .handOuts ≡ b .handOuts → b′ .acksDue ≡ b .acksDue → b′ .expected ≡ b .expected → Unnoticed b b′
   unfolding bookMemory
   same-accepted b b′ st tr ac lo me by ho du ex = record {
@@ -221,7 +243,8 @@ module _ (cardId hostId : ℕ) where
 
     beyond : (i : ℕ) → n ≤ i → count i es ≡ 0
     beyond i h =
-        none-beyond n es (λ e m. s .known e (Memᴰ·append-left (b .building) (messagesIn-some isAccepted (b .frames) e m))) i h
+        none-beyond n es (λ e m. s .known e (Memᴰ·append-left (b .building)
+        (messagesIn-some isAccepted (b .frames) e m))) i h
 
     full-same : (i : ℕ) → fullAt ds′ es i ≡ fullAt ds es i
     full-same i = go (decLt i n)
@@ -268,7 +291,8 @@ module _ (cardId hostId : ℕ) where
     not-complete : (k : ℕ) → n ≤ k → allMessagesIn new k es ≡ false
     not-complete k h = not-full new k es (omega (arith, beyond k h, needed-pos terms))
 
-    writes-new : (xs : List Transaction) (k : ℕ) → k + length xs ≡ n → bookWrites k (xs ++ (new ∷ [])) es ≡ bookWrites k xs es
+    writes-new : (xs : List Transaction) (k : ℕ) → k + length xs ≡ n → bookWrites k (xs ++ (new ∷ [])) es
+        ≡ bookWrites k xs es
     unfolding bookWrites writesOf dataWrites
     writes-new [] k q = rw (none-of es k (beyond k (omega arith)), not-complete k (omega arith)) refl
     writes-new (d ∷ xs) k q = ap (λ r. writesOf d k es ++ r) (writes-new xs (suc k) (omega arith))
@@ -303,10 +327,13 @@ module _ (cardId hostId : ℕ) where
     unfolding enterOpening
     rest-opening h memory handOuts acks answers typed r =
         rest-alike b (enterOpening b terms address value) s opening-unnoticed h memory handOuts acks answers r
-        (λ i l. types i (at-end ds new noTransaction i l)) (r .messagesTyped)
+        (record {
+          termsTyped = λ i l. types i (at-end ds new noTransaction i l);
+          messagesTyped = r .typed .messagesTyped;
+        })
       where
         types : (i : ℕ) → (i < n) ⊎ ((i ≡ n) × (getD ds′ i noTransaction ≡ new)) → TermsTyped (getD ds′ i noTransaction)
-        types i (inl p) = rw (List·getD-append ds (new ∷ []) noTransaction i p) (r .termsTyped i p)
+        types i (inl p) = rw (List·getD-append ds (new ∷ []) noTransaction i p) (r .typed .termsTyped i p)
         types i (inr q) =
             rw (q .1) (record { count-fits = typed .0; address-fits = typed .1; value-fits = typed .2 })
 
@@ -318,12 +345,16 @@ module _ (cardId hostId : ℕ) where
   rest-adding b s e typed h memory handOuts acks answers r =
       rest-alike b (withAdded b e) s
       (same-accepted b (withAdded b e) refl refl (λ n. refl) refl refl (λ c l. refl) refl refl refl)
-      h memory handOuts acks answers r (r .termsTyped)
-      (λ x m. go x (List·Memᴰ·append-cases (addedMessages b)
-      (subst (List·Memᴰ x) (sym (append-assoc (messagesIn anyFrame (b .frames)) (b .building) (e ∷ []))) m)))
+      h memory handOuts acks answers r
+      (record {
+        termsTyped = r .typed .termsTyped;
+        messagesTyped = λ x m.
+            go x (List·Memᴰ·append-cases (addedMessages b)
+            (subst (List·Memᴰ x) (sym (append-assoc (messagesIn anyFrame (b .frames)) (b .building) (e ∷ []))) m));
+      })
     where
       go : (x : MessageRecord) → List·Memᴰ x (addedMessages b) ⊎ List·Memᴰ x (e ∷ []) → MessageTyped x
-      go x (inl m) = r .messagesTyped x m
+      go x (inl m) = r .typed .messagesTyped x m
       go x (inr m) = subst MessageTyped (sym (List·Memᴰ·eq-of-singleton m)) typed
 
   -- ---- sealing
@@ -348,14 +379,16 @@ module _ (cardId hostId : ℕ) where
         go (no m) =
             let z : length (b .frames) + (k - length (b .frames)) ≡ k = omega arith in
             subst (λ (i : ℕ). getD frames′ i noFrame .accepted ≡ false) z
-            (ap (λ (y : FrameRecord). y .accepted) (getD-append-add (b .frames) (last ∷ []) (k - length (b .frames)) noFrame)
+            (ap (λ (y : FrameRecord). y .accepted) (getD-append-add (b .frames) (last ∷ [])
+            (k - length (b .frames)) noFrame)
             ∙ tail (k - length (b .frames)))
             ∙ sym (ap (λ (y : FrameRecord). y .accepted) (List·getD-eq-default (b .frames) noFrame (omega arith)))
 
     lowest-seal : lowestNotAccepted (enterSealing b) ≡ lowestNotAccepted b
     unfolding enterSealing
     lowest-seal =
-        let l : lowestNotAccepted b ≤ length (b .frames) = leading-le (λ k. frameAt b k .accepted) (length (b .frames)) in
+        let l : lowestNotAccepted b ≤ length (b .frames) =
+        leading-le (λ k. frameAt b k .accepted) (length (b .frames)) in
         leading-is (λ k. frameAt (enterSealing b) k .accepted) (length frames′) (lowestNotAccepted b)
         (omega (arith, length-append (b .frames) (last ∷ [])))
         (λ i h. accepted-same i ∙ leading-holds (λ k. frameAt b k .accepted) (length (b .frames)) i h)
@@ -367,7 +400,8 @@ module _ (cardId hostId : ℕ) where
 
     messages-seal : acceptedMessages (enterSealing b) ≡ acceptedMessages b
     unfolding enterSealing messagesIn
-    messages-seal = messagesIn-append isAccepted (b .frames) (last ∷ []) ∙ append-nil (messagesIn isAccepted (b .frames))
+    messages-seal = messagesIn-append isAccepted (b .frames) (last ∷ [])
+        ∙ append-nil (messagesIn isAccepted (b .frames))
 
     sealing-unnoticed : Unnoticed b (enterSealing b)
     unfolding enterSealing
@@ -381,39 +415,44 @@ module _ (cardId hostId : ℕ) where
         → Rest h memory handOuts acks answers b → Rest h memory handOuts acks answers (enterSealing b)
     unfolding enterSealing
     rest-sealing h memory handOuts acks answers r =
-        rest-alike b (enterSealing b) s sealing-unnoticed h memory handOuts acks answers r (r .termsTyped)
-        (λ e m. r .messagesTyped e (subst (List·Memᴰ e) (added-seal b s some) m))
+        rest-alike b (enterSealing b) s sealing-unnoticed h memory handOuts acks answers r
+        (record {
+          termsTyped = r .typed .termsTyped;
+          messagesTyped = λ e m. r .typed .messagesTyped e (subst (List·Memᴰ e) (added-seal b) m);
+        })
 
   -- ---- reading an acknowledgement
 
-  module _ (b : Book) (s : Sound b) (x : ℕ) (inside : x < length (b .frames)) where
+  module _ (b : Book) (s : Sound b) (x : AckRange) where
     abbrev marked : List FrameRecord
-    marked = changeAt (b .frames) x markAcknowledged
+    marked = markWhere (covers x) markAcknowledged (b .frames)
 
-    same-at : {A : Type 0} (f : FrameRecord → A) → ((y : FrameRecord) → f (markAcknowledged y) ≡ f y) → (k : ℕ)
-        → f (getD marked k noFrame) ≡ f (getD (b .frames) k noFrame)
-    same-at f q k = go (ℕ-discrete k x)
-      where
-        go : Dec (k ≡ x) → f (getD marked k noFrame) ≡ f (getD (b .frames) k noFrame)
-        go (yes e) = rw e (ap f (getD-change-same (b .frames) x markAcknowledged inside) ∙ q (getD (b .frames) x noFrame))
-        go (no d) = ap f (getD-change-other (b .frames) x k markAcknowledged d)
+    accepted-kept : (k : ℕ) → getD marked k noFrame .accepted ≡ frameAt b k .accepted
+    accepted-kept k = where-keeps (λ y. y .accepted) markAcknowledged (λ y. refl) (covers x) (b .frames) k
+
+    same : SameMessages (b .frames) marked
+    same = same-marked (covers x) (b .frames)
 
     acking-unnoticed : Unnoticed b (enterAck b (some x))
     unfolding enterAck
     acking-unnoticed =
-        same-accepted b (enterAck b (some x)) refl refl (same-at (λ y. y .accepted) (λ y. refl))
-        (ap (leading (λ k. frameAt (enterAck b (some x)) k .accepted)) (length-change (b .frames) x markAcknowledged)
-        ∙ leading-same (λ k. frameAt (enterAck b (some x)) k .accepted) (λ k. frameAt b k .accepted) (length (b .frames))
-        (λ i h. same-at (λ y. y .accepted) (λ y. refl) i))
-        (messagesIn-change isAccepted markAcknowledged (λ y. refl) (λ y. refl) (b .frames) x)
-        (λ c l. ap (framed cardId hostId (b .transactions) c) (sym (same-at (λ y. y .messages) (λ y. refl) c)))
+        same-accepted b (enterAck b (some x)) refl refl accepted-kept
+        (ap (leading (λ k. frameAt (enterAck b (some x)) k .accepted)) (same .sameLength)
+        ∙ leading-same (λ k. frameAt (enterAck b (some x)) k .accepted) (λ k. frameAt b k .accepted)
+        (length (b .frames))
+        (λ i h. accepted-kept i))
+        (messagesIn-whole isAccepted (b .frames) marked same accepted-kept)
+        (λ c l. ap (framed cardId hostId (b .transactions) c) (sym (same .sameAt c)))
         refl refl refl
 
     pub rest-acking : (h : Pair) (memory : List ℕ) (handOuts acks : List (List ℕ)) (answers : List Answer)
         → Rest h memory handOuts acks answers b → Rest h memory handOuts acks answers (enterAck b (some x))
     unfolding enterAck
     rest-acking h memory handOuts acks answers r =
-        rest-alike b (enterAck b (some x)) s acking-unnoticed h memory handOuts acks answers r (r .termsTyped)
-        (λ e m. r .messagesTyped e
-        (subst (λ (l : List MessageRecord). List·Memᴰ e (l ++ b .building))
-        (messagesIn-change anyFrame markAcknowledged (λ y. refl) (λ y. refl) (b .frames) x) m))
+        rest-alike b (enterAck b (some x)) s acking-unnoticed h memory handOuts acks answers r
+        (record {
+          termsTyped = r .typed .termsTyped;
+          messagesTyped = λ e m.
+              r .typed .messagesTyped e
+              (subst (λ (l : List MessageRecord). List·Memᴰ e (l ++ b .building)) (all-same (b .frames) marked same) m);
+        })

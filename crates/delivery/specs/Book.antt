@@ -4,7 +4,7 @@ use Prim.Native.Nat.{ℕ, zero, suc, _+_}
 use mathlib.Core.Bool.{Bool, true, false, cond, not, _&&_}
 use mathlib.Core.List.{List, [], _∷_, _++_}
 use mathlib.Core.Option.{Option, none, some}
-use lib.Dec.{eqb, leb}
+use lib.Dec.{eqb, leb, ltb}
 use lib.ListN.{length, getD, getElem?, take}
 use lib.Seq.{sets}
 use Rattle.seq.specs.Ring.{latest, frameSpace, transSpace}
@@ -13,7 +13,19 @@ use Rattle.octets.specs.Octets.{little}
 use Rattle.wire.specs.Format.{needed}
 use Rattle.wire.specs.Reading.{number}
 use Rattle.host.specs.declared.Sums.{Sums}
-use Rattle.delivery.specs.System.{Event, opens, adds, seals, reads, shows, chooses, receives, Observation}
+use Rattle.delivery.specs.System.{
+  CardCall,
+  openCall,
+  addCall,
+  sealCall,
+  readCall,
+  showCall,
+  chooseCall,
+  Event,
+  calls,
+  receives,
+  Observation,
+}
 
 -- A message: its transaction, and what it writes.
 pub record MessageRecord : Type 0 where
@@ -28,34 +40,48 @@ pub record Transaction : Type 0 where
   pub completionValue : ℕ
   pub unfinishedAtOpening : List ℕ
 
--- A sealed frame: its messages, whether it was acknowledged, whether the host has accepted it: whether a copy has reached it.
+-- A sealed frame: its messages, whether it was acknowledged, whether the host has accepted it: whether a copy has
+-- reached it.
 pub record FrameRecord : Type 0 where
   pub messages : List MessageRecord
   pub acknowledged : Bool
   pub accepted : Bool
 
--- What a showing or a choice handed out: nothing where it was refused, the lent acknowledgement, or a copy of a sealed frame.
+-- What a showing or a choice handed out: nothing where it was refused, the lent acknowledgement, or a copy of a sealed
+-- frame.
 pub data HandOut : Type 0 where
   nothingHanded : HandOut
   lentAck : HandOut
   frameCopy : ℕ → HandOut
 
--- The answer due to an arrival: accepted, with the frame's messages, data bytes and the transactions that it completes; again;
--- or one that is neither. The number is the frame's count.
+-- The frames that an acknowledgement covers: some that follow one another, from the first on.
+pub record AckRange : Type 0 where
+  pub first : ℕ
+  pub many : ℕ
+
+abbrev pub covers : AckRange → ℕ → Bool
+covers r n = leb (r .first) n && ltb n (r .first + r .many)
+
+-- An answer acknowledges its own frame alone.
+abbrev pub oneFrame : ℕ → AckRange
+oneFrame c = record { first = c; many = 1 }
+
+-- The answer due to an arrival: accepted, with the frame's messages, data bytes and the transactions that it completes;
+-- again; or one that is neither. The number is the frame's count.
 pub data Expected : Type 0 where
   expectAccepted : ℕ → Sums → Expected
   expectAgain : ℕ → Expected
   expectNoEffect : Expected
 
--- The starting memory, the transactions and the sealed frames in their order, the messages of the frame being built; what was
--- handed out, the frames that acknowledgements were called for, and the answers due, each oldest first.
+-- The starting memory, the transactions and the sealed frames in their order, the messages of the frame being built;
+-- what was handed out, what the acknowledgements called for cover, and the answers due, each oldest first.
 pub record Book : Type 0 where
   pub start : List ℕ
   pub transactions : List Transaction
   pub frames : List FrameRecord
   pub building : List MessageRecord
   pub handOuts : List HandOut
-  pub acksDue : List ℕ
+  pub acksDue : List AckRange
   pub expected : List Expected
 
 -- ---- what the book's columns come to
@@ -77,7 +103,8 @@ isAccepted s = s .accepted
 abbrev pub anyFrame : FrameRecord → Bool
 anyFrame s = true
 
--- How many frames the card has released: all before the first that is not acknowledged. And the lowest frame not accepted.
+-- How many frames the card has released: all before the first that is not acknowledged. And the lowest frame not
+-- accepted.
 abbrev pub releasedCount : Book → ℕ
 releasedCount b = leading (λ c. frameAt b c .acknowledged) (length (b .frames))
 
@@ -144,7 +171,8 @@ dataWrites (e ∷ es) = record { at = e .dataAddress; bytes = e .bytes } ∷ dat
 unfoldable pub completionWrite : Transaction → Write
 completionWrite d = record { at = d .completionAddress; bytes = little 4 (d .completionValue) }
 
--- The writes of transaction i: its data among these messages, and its completion exactly when all its messages are among them.
+-- The writes of transaction i: its data among these messages, and its completion exactly when all its messages are
+-- among them.
 unfoldable pub writesOf : Transaction → ℕ → List MessageRecord → List Write
 writesOf d i es = dataWrites (ofTransaction i es) ++ cond (allMessagesIn d i es) (completionWrite d ∷ []) []
 
@@ -206,7 +234,7 @@ withFrames b frames building = record {
   expected = b .expected;
 }
 
-abbrev pub withTraffic : Book → List HandOut → List ℕ → List Expected → Book
+abbrev pub withTraffic : Book → List HandOut → List AckRange → List Expected → Book
 withTraffic b handOuts acksDue expected = record {
   start = b .start;
   transactions = b .transactions;
@@ -251,10 +279,15 @@ markAcknowledged s = record { messages = s .messages; acknowledged = true; accep
 abbrev pub markAccepted : FrameRecord → FrameRecord
 markAccepted s = record { messages = s .messages; acknowledged = s .acknowledged; accepted = true }
 
--- The card reads an acknowledgement of a frame.
-unfoldable pub enterAck : Book → Option ℕ → Book
+-- The frames whose counts pass a test, changed.
+unfoldable pub markWhere : (ℕ → Bool) → (FrameRecord → FrameRecord) → List FrameRecord → List FrameRecord
+markWhere p f [] = []
+markWhere p f (s ∷ ss) = cond (p 0) (f s) s ∷ markWhere (λ n. p (suc n)) f ss
+
+-- The card reads an acknowledgement: the sealed frames that it covers are acknowledged.
+unfoldable pub enterAck : Book → Option AckRange → Book
 enterAck b none = b
-enterAck b (some c) = withFrames b (changeAt (b .frames) c markAcknowledged) (b .building)
+enterAck b (some r) = withFrames b (markWhere (covers r) markAcknowledged (b .frames)) (b .building)
 
 unfoldable pub enterHandOut : Book → HandOut → Book
 enterHandOut b x = withTraffic b (b .handOuts ++ (x ∷ [])) (b .acksDue) (b .expected)
@@ -274,7 +307,8 @@ unfoldable pub enterArrival : Book → ℕ → Book
 enterArrival b c =
     let frames = changeAt (b .frames) c markAccepted in
     let answer = cond (frameAt b c .accepted) (expectAgain c) (firstAnswer b c frames) in
-    withTraffic (withFrames b frames (b .building)) (b .handOuts) (b .acksDue ++ (c ∷ [])) (b .expected ++ (answer ∷ []))
+    withTraffic (withFrames b frames (b .building)) (b .handOuts) (b .acksDue ++ (oneFrame c ∷ []))
+    (b .expected ++ (answer ∷ []))
 
 -- What reaches the host carries no message.
 unfoldable pub enterNoEffect : Book → Book
@@ -296,13 +330,16 @@ chosen b wasRefused ack handedOut =
     (cond (eqb (length ack) 10) lentAck (frameCopy (latest frameSpace (length (b .frames)) (number handedOut))))
 
 -- Any call. A refused one enters nothing, but that a refused showing or choice hands out nothing.
+abbrev pub enterCall : Book → CardCall → Bool → List ℕ → Book
+enterCall b (openCall count address value) wasRefused handedOut = cond wasRefused b (enterOpening b count address value)
+enterCall b (addCall n at bytes) wasRefused handedOut = cond wasRefused b (enterMessage b n at bytes)
+enterCall b sealCall wasRefused handedOut = cond wasRefused b (enterSealing b)
+enterCall b (readCall k) wasRefused handedOut = cond wasRefused b (enterAck b (getElem? (b .acksDue) k))
+enterCall b (showCall n) wasRefused handedOut = enterHandOut b (shown b wasRefused n)
+enterCall b (chooseCall ack) wasRefused handedOut = enterHandOut b (chosen b wasRefused ack handedOut)
+
 unfoldable pub enter : Book → Event → Bool → List ℕ → Book
-enter b (opens count address value) wasRefused handedOut = cond wasRefused b (enterOpening b count address value)
-enter b (adds n at bytes) wasRefused handedOut = cond wasRefused b (enterMessage b n at bytes)
-enter b seals wasRefused handedOut = cond wasRefused b (enterSealing b)
-enter b (reads k) wasRefused handedOut = cond wasRefused b (enterAck b (getElem? (b .acksDue) k))
-enter b (shows n) wasRefused handedOut = enterHandOut b (shown b wasRefused n)
-enter b (chooses ack) wasRefused handedOut = enterHandOut b (chosen b wasRefused ack handedOut)
+enter b (calls x) wasRefused handedOut = enterCall b x wasRefused handedOut
 enter b (receives k) wasRefused handedOut = enterDelivery b (getElem? (b .handOuts) k)
 
 abbrev pub bookStep : Book → Observation → Book

@@ -17,13 +17,15 @@ use Rattle.delivery.specs.System.{
   CardResult,
   Implementation,
   specified,
+  CardCall,
+  openCall,
+  addCall,
+  sealCall,
+  readCall,
+  showCall,
+  chooseCall,
   Event,
-  opens,
-  adds,
-  seals,
-  reads,
-  shows,
-  chooses,
+  calls,
   receives,
   System,
   Observation,
@@ -37,6 +39,7 @@ use Rattle.delivery.specs.Book.{
   nothingHanded,
   lentAck,
   frameCopy,
+  AckRange,
   Expected,
   expectAccepted,
   expectAgain,
@@ -71,22 +74,25 @@ pub record BothOpen (cardId hostId : ℕ) (card : CardResult) (host : Opened) : 
   pub hostOpens : host .refusal .number ≡ 0
 
 -- The arguments are of the calls' types: 16-bit and 32-bit numbers. (Bytes may be any.)
+abbrev pub typedCall : CardCall → Bool
+typedCall (openCall count address value) = ltb count 65536 && (ltb address transSpace && ltb value transSpace)
+typedCall (addCall t at bytes) = ltb t transSpace && ltb at transSpace
+typedCall sealCall = true
+typedCall (readCall k) = true
+typedCall (showCall n) = ltb n frameSpace
+typedCall (chooseCall ack) = true
+
 unfoldable pub typed : Event → Bool
-typed (opens count address value) = ltb count 65536 && (ltb address transSpace && ltb value transSpace)
-typed (adds t at bytes) = ltb t transSpace && ltb at transSpace
-typed seals = true
-typed (reads k) = true
-typed (shows n) = ltb n frameSpace
-typed (chooses ack) = true
+typed (calls x) = typedCall x
 typed (receives k) = true
 
 unfoldable pub allTyped : List Event → Bool
 allTyped [] = true
 allTyped (x ∷ xs) = typed x && allTyped xs
 
--- Late (a term of the rules) on arrival: a copy of a sealed frame by the host's lowest count not accepted less its own, an
--- acknowledgement by the card's lowest not released less the answered frame's. Neither may be more than 32,768 numbers late, each
--- arrival taken with the book as it stands then.
+-- Late (a term of the rules) on arrival: a copy of a sealed frame by the host's lowest count not accepted less its own,
+-- an acknowledgement by the card's lowest not released less the answered frame's, the first that it covers. Neither may
+-- be more than 32,768 numbers late, each arrival taken with the book as it stands then.
 abbrev pub copyLateMost : ℕ
 copyLateMost = 32768
 
@@ -99,17 +105,20 @@ frameInTime b (some nothingHanded) = true
 frameInTime b (some lentAck) = true
 frameInTime b (some (frameCopy c)) = leb (lowestNotAccepted b) (c + copyLateMost)
 
-unfoldable pub ackInTime : Book → Option ℕ → Bool
+unfoldable pub ackInTime : Book → Option AckRange → Bool
 ackInTime b none = true
-ackInTime b (some c) = leb (releasedCount b) (c + ackLateMost)
+ackInTime b (some r) = leb (releasedCount b) (r .first + ackLateMost)
+
+abbrev pub callInTime : Book → CardCall → Bool
+callInTime b (openCall count address value) = true
+callInTime b (addCall t at bytes) = true
+callInTime b sealCall = true
+callInTime b (readCall k) = ackInTime b (getElem? (b .acksDue) k)
+callInTime b (showCall n) = true
+callInTime b (chooseCall ack) = true
 
 unfoldable pub inTime : Book → Event → Bool
-inTime b (opens count address value) = true
-inTime b (adds t at bytes) = true
-inTime b seals = true
-inTime b (reads k) = ackInTime b (getElem? (b .acksDue) k)
-inTime b (shows n) = true
-inTime b (chooses ack) = true
+inTime b (calls x) = callInTime b x
 inTime b (receives k) = frameInTime b (getElem? (b .handOuts) k)
 
 unfoldable pub notTooLate : Book → List Observation → Bool
@@ -139,21 +148,29 @@ NoByteTwice (w ∷ ws) = ApartFrom w ws × NoByteTwice ws
 abbrev pub writesMade : Book → ℕ → List Write
 writesMade b i = writesOf (transactionAt b i) i (acceptedMessages b)
 
--- What the list has to keep to; b is the book after it.
-pub record WritesAllowed (b : Book) : Type 0 where
-  -- every write lies inside memory, also one of no bytes and a completion that is not due yet
-  pub dataInside : (e : MessageRecord) → List·Memᴰ e (addedMessages b) → e .dataAddress + length (e .bytes) ≤ length (b .start)
+-- What the list has to keep to; b is the book after it. Every write lies inside memory, also one of no bytes and a
+-- completion that is not due yet.
+pub record WritesInside (b : Book) : Type 0 where
+  pub dataInside : (e : MessageRecord) → List·Memᴰ e (addedMessages b)
+      → e .dataAddress + length (e .bytes) ≤ length (b .start)
   pub completionInside : (d : Transaction) → List·Memᴰ d (b .transactions) → d .completionAddress + 4 ≤ length (b .start)
+
+pub record WritesApart (b : Book) : Type 0 where
   -- no transaction writes one byte twice
   pub onceEach : (i : ℕ) → i < length (b .transactions) → NoByteTwice (writesMade b i)
-  -- no two that write a common byte are opened and unfinished together: i, opened first, was unfinished when j was opened
-  pub apartTogether : (i j : ℕ) → i < j → j < length (b .transactions) → List·Memᴰ i (transactionAt b j .unfinishedAtOpening)
-      → AllApart (writesMade b i) (writesMade b j)
+  -- no two that write a common byte are opened and unfinished together: i, opened first, was unfinished when j was
+  -- opened
+  pub apartTogether : (i j : ℕ) → i < j → j < length (b .transactions)
+      → List·Memᴰ i (transactionAt b j .unfinishedAtOpening) → AllApart (writesMade b i) (writesMade b j)
+
+pub record WritesAllowed (b : Book) : Type 0 where
+  pub inside : WritesInside b
+  pub apart : WritesApart b
 
 -- ---- what follows
 
--- What a list leaves that the demand speaks of: the host's answers and memory, and how many sealed frames the card has not
--- released.
+-- What a list leaves that the demand speaks of: the host's answers and memory, and how many sealed frames the card has
+-- not released.
 pub record Outcome : Type 0 where
   pub answers : List Answer
   pub memory : List ℕ
@@ -175,15 +192,24 @@ numberedAs (expectAccepted c sums) = expectAccepted (c % frameSpace) sums
 numberedAs (expectAgain c) = expectAgain (c % frameSpace)
 numberedAs expectNoEffect = expectNoEffect
 
--- How often a copy of frame c is answered "accepted".
-unfoldable pub accepts : ℕ → Expected → Bool
-accepts c (expectAccepted x sums) = eqb x c
-accepts c (expectAgain x) = false
-accepts c expectNoEffect = false
+-- The k-th answer is the one to what arrived k-th, and the book's k-th line says of which frame that was a copy, if of
+-- any. So this is how often copies of frame c were answered "accepted".
+unfoldable pub copyOf : ℕ → Expected → Bool
+copyOf c (expectAccepted x sums) = eqb x c
+copyOf c (expectAgain x) = eqb x c
+copyOf c expectNoEffect = false
 
-unfoldable pub timesAccepted : ℕ → List Expected → ℕ
-timesAccepted c [] = 0
-timesAccepted c (r ∷ rs) = cond (accepts c r) 1 0 + timesAccepted c rs
+unfoldable pub saysAccepted : Answer → Bool
+saysAccepted (Accepted n sums) = true
+saysAccepted (Again n) = false
+saysAccepted NoMessages = false
+saysAccepted (Refused r) = false
+
+unfoldable pub timesAccepted : ℕ → List Answer → List Expected → ℕ
+timesAccepted c [] arrivals = 0
+timesAccepted c (a ∷ answers) [] = 0
+timesAccepted c (a ∷ answers) (r ∷ arrivals) =
+    cond (saysAccepted a && copyOf c r) 1 0 + timesAccepted c answers arrivals
 
 -- Sums over the accepted answers.
 unfoldable pub sumOver : (Sums → ℕ) → List Answer → ℕ
@@ -202,7 +228,8 @@ bytesSum = sumOver (λ s. s .bytes)
 abbrev pub completeSum : List Answer → ℕ
 completeSum = sumOver (λ s. s .completed)
 
--- The messages that all transactions take together, and the data bytes of those from i on, each transaction's counted once.
+-- The messages that all transactions take together, and the data bytes of those from i on, each transaction's counted
+-- once.
 unfoldable pub neededBy : List Transaction → ℕ
 neededBy [] = 0
 neededBy (d ∷ ds) = needed (d .count) + neededBy ds
@@ -219,13 +246,15 @@ pub record WhenAllFinished (o : Outcome) (b : Book) : Type 0 where
   pub memoryInTurn : o .memory ≡ serialMemory b
 
 pub record Guarantees (o : Outcome) (b : Book) : Type 0 where
-  -- each arrival is answered as the book says, and of the answers to copies of a sealed frame that reached the host exactly one
-  -- is "accepted"
+  -- each arrival is answered as the book says, and of the answers to copies of a sealed frame that reached the host
+  -- exactly one is "accepted"
   pub answersMatch : map seenAs (o .answers) ≡ map numberedAs (b .expected)
-  pub acceptedOnce : (c : ℕ) → frameAt b c .accepted ≡ true → timesAccepted c (b .expected) ≡ 1
-  -- the card released only such frames
+  pub acceptedOnce : (c : ℕ) → frameAt b c .accepted ≡ true → timesAccepted c (o .answers) (b .expected) ≡ 1
+  -- the card released only such frames: it has released all sealed ones but the last few, as many as it has unreleased.
+  -- They are those that the book says.
+  pub releasedAccepted : (c : ℕ) → c + o .unreleasedFrames < length (b .frames)
+      → timesAccepted c (o .answers) (b .expected) ≡ 1
   pub releasedAgrees : length (b .frames) ≡ releasedCount b + o .unreleasedFrames
-  pub releasedAccepted : (c : ℕ) → c < releasedCount b → frameAt b c .accepted ≡ true
   -- no transaction has more messages than its count, so that "as many as it takes" is exactly as many
   pub noneOver : (i : ℕ) → i < length (b .transactions)
       → length (ofTransaction i (addedMessages b)) ≤ needed (transactionAt b i .count)
@@ -240,11 +269,11 @@ pub record Guarantees (o : Outcome) (b : Book) : Type 0 where
 unfoldable pub Demand3For : Implementation → Type 0
 Demand3For e =
     (cardId hostId limit : ℕ) (slots memory : List ℕ) (events : List Event)
-    → BothOpen cardId hostId (e .cardOpening cardId hostId limit slots) (e .hostOpening hostId cardId)
+    → BothOpen cardId hostId (e .cardEnd .cardOpening cardId hostId limit slots) (e .hostEnd .hostOpening hostId cardId)
     → let r = run e (initial e cardId hostId limit slots memory) events in
     let b = bookOf memory (r .observations) in
-    allTyped events ≡ true → notTooLate (emptyBook memory) (r .observations) ≡ true → WritesAllowed b
-    → Guarantees (outcomeOf (r .system)) b
+    allTyped events ≡ true → notTooLate (emptyBook memory) (r .observations) ≡ true
+    → WritesAllowed b → Guarantees (outcomeOf (r .system)) b
 
 -- Demand 3: for the ends that the rules describe. proofs/Demand.antt has a term of this type.
 abbrev pub Demand3 : Type 0

@@ -1,15 +1,19 @@
--- Wrong ends: hosts and cards with one fault each, and the buyer's older host. Nothing of this needs to be believed: proofs/Excluded.antt
--- and proofs/Older.antt show that none of them meets demand 3, but for the card that adds nothing.
-use Prim.Native.Nat.{ℕ, suc}
+-- Wrong ends: hosts and cards with one fault each, and the buyer's older host. Nothing of this needs to be believed:
+-- proofs/Wrong/Excluded.antt and proofs/Wrong/Older.antt show that none of them meets demand 3, but for the card that
+-- adds nothing.
+use Prim.Native.Nat.{ℕ, suc, _%_}
 use mathlib.Core.Bool.{Bool, cond, _&&_}
 use mathlib.Core.List.{List, []}
 use lib.Dec.{eqb, leb, ltb}
+use lib.ListN.{getD, take, drop}
+use lib.Seq.{sets}
 use Rattle.seq.specs.Ring.{distance, frameSpace, transSpace}
 use Rattle.bitmap.specs.Marks.{mark}
-use Rattle.octets.specs.Octets.{field}
+use Rattle.octets.specs.Octets.{field, little}
 use Rattle.wire.specs.Format.{Message}
 use Rattle.wire.specs.Reading.{number, flags, addressed, Read, bad, good, readFrame}
 use Rattle.wire.specs.Writing.{ackFrame}
+use Rattle.terms.specs.Terms.{free}
 use Rattle.host.specs.declared.Pair.{Pair}
 use Rattle.host.specs.declared.Answer.{Answer}
 use Rattle.host.specs.declared.Answer.the-variants.{Accepted, Again, NoMessages, Refused}
@@ -21,12 +25,18 @@ use Rattle.host.specs.Host.{
   tallyOf,
   takeAll,
   concluded,
+  openedOf,
   receiveOf,
   rangeOf,
-  acknowledgementOf,
 }
 use Rattle.card.specs.declared.Card.{Card}
-use Rattle.delivery.specs.System.{CardResult, Implementation, handedOver, specified}
+use Rattle.delivery.specs.System.{
+  CardResult,
+  Implementation,
+  handedOver,
+  specifiedCard,
+  specifiedHost,
+}
 
 -- ---- the rules' ends but for some steps
 
@@ -34,47 +44,35 @@ abbrev pub Receiving : Type 0
 Receiving = Pair → List ℕ → List ℕ → Received
 
 -- Another receiving at the host, another acknowledging, other steps of the card.
-abbrev pub withHost : Receiving → Implementation
-withHost r = record {
-  cardOpening = specified .cardOpening;
-  hostOpening = specified .hostOpening;
-  opening = specified .opening;
-  adding = specified .adding;
-  sealing = specified .sealing;
-  reading = specified .reading;
-  showing = specified .showing;
-  choosing = specified .choosing;
-  receiving = r;
-  acknowledging = specified .acknowledging;
+abbrev pub Acknowledging : Type 0
+Acknowledging = Pair → Answer → ℕ → Acknowledgement
+
+abbrev pub hostWith : Receiving → Acknowledging → Implementation
+hostWith receiving acknowledging = record {
+  cardEnd = specifiedCard;
+  hostEnd = record { hostOpening = openedOf; receiving = receiving; acknowledging = acknowledging };
 }
 
-abbrev pub withAcknowledging : (ℕ → ℕ → Answer → ℕ → Acknowledgement) → Implementation
-withAcknowledging a = record {
-  cardOpening = specified .cardOpening;
-  hostOpening = specified .hostOpening;
-  opening = specified .opening;
-  adding = specified .adding;
-  sealing = specified .sealing;
-  reading = specified .reading;
-  showing = specified .showing;
-  choosing = specified .choosing;
-  receiving = specified .receiving;
-  acknowledging = a;
-}
+abbrev pub withHost : Receiving → Implementation
+withHost r = hostWith r (specifiedHost .acknowledging)
+
+abbrev pub withAcknowledging : Acknowledging → Implementation
+withAcknowledging a = hostWith receiveOf a
 
 abbrev pub withCardSteps : (ℕ → ℕ → ℕ → List ℕ → CardResult) → (Card → List ℕ → ℕ → ℕ → List ℕ → CardResult)
-    → (Card → List ℕ → CardResult) → (Card → List ℕ → List ℕ → CardResult) → Implementation
-withCardSteps opened added sealed read = record {
-  cardOpening = opened;
-  hostOpening = specified .hostOpening;
-  opening = specified .opening;
-  adding = added;
-  sealing = sealed;
-  reading = read;
-  showing = specified .showing;
-  choosing = specified .choosing;
-  receiving = specified .receiving;
-  acknowledging = specified .acknowledging;
+    → (Card → List ℕ → CardResult) → (Card → List ℕ → List ℕ → CardResult) → (Card → List ℕ → ℕ → CardResult)
+    → Implementation
+withCardSteps opened added sealed read shown = record {
+  cardEnd = record {
+    cardOpening = opened;
+    opening = specifiedCard .opening;
+    adding = added;
+    sealing = sealed;
+    reading = read;
+    showing = shown;
+    choosing = specifiedCard .choosing;
+  };
+  hostEnd = specifiedHost;
 }
 
 -- ---- hosts that answer or write at will
@@ -134,31 +132,51 @@ forgets h f m =
       answer = r .answer;
     }
 
--- With a frame received ahead, it takes the frame that fills the hole for an old copy: it answers "again" and throws it away.
+-- With a frame received ahead, it takes the frame that fills the hole for an old copy: it answers "again" and throws it
+-- away.
 unfoldable pub takesForOld : Receiving
 takesForOld h f m =
     cond (eqb (h .marks) 0) (receiveOf h f m) (unchanged h m (Again (record { 0 = number f })))
 
+-- It writes the completion of its first message's transaction as soon as one message is left to come.
+unfoldable pub completesEarly : Receiving
+completesEarly h f m =
+    let r = receiveOf h f m in
+    let o = getD (r .pair .table) (field f 10 4 % 32) free in
+    record {
+      pair = r .pair;
+      memory = cond (eqb (suc (o .received)) (o .count)) (sets (r .memory) (o .address) (little 4 (o .value)))
+          (r .memory);
+      answer = r .answer;
+    }
+
+-- It leaves the four bytes at its first message's completion address as they were.
+unfoldable pub neverCompletes : Receiving
+neverCompletes h f m =
+    let r = receiveOf h f m in
+    let at = field f 14 4 in
+    record { pair = r .pair; memory = sets (r .memory) at (take 4 (drop at m)); answer = r .answer }
+
 -- It acknowledges the next number along with the one that it took.
-unfoldable pub acksTwo : ℕ → ℕ → Answer → ℕ → Acknowledgement
-acksTwo own peer a num = record {
+unfoldable pub acksTwo : Acknowledging
+acksTwo p a num = record {
   due = ltb 0 (rangeOf a .count);
-  frame = ackFrame peer own num (rangeOf a .start .0) (suc (rangeOf a .count));
+  frame = ackFrame (p .peer) (p .own) num (rangeOf a .start .0) (suc (rangeOf a .count));
 }
 
 -- It does not acknowledge a frame that comes again.
-unfoldable pub silentOnAgain : ℕ → ℕ → Answer → ℕ → Acknowledgement
-silentOnAgain own peer (Again n) num = acknowledgementOf own peer NoMessages num
-silentOnAgain own peer (Accepted n s) num = acknowledgementOf own peer (Accepted n s) num
-silentOnAgain own peer NoMessages num = acknowledgementOf own peer NoMessages num
-silentOnAgain own peer (Refused r) num = acknowledgementOf own peer (Refused r) num
+unfoldable pub silentOnAgain : Acknowledging
+silentOnAgain p (Again n) num = specifiedHost .acknowledging p NoMessages num
+silentOnAgain p (Accepted n s) num = specifiedHost .acknowledging p (Accepted n s) num
+silentOnAgain p NoMessages num = specifiedHost .acknowledging p NoMessages num
+silentOnAgain p (Refused r) num = specifiedHost .acknowledging p (Refused r) num
 
 -- ---- cards
 
 -- It releases what it seals.
 unfoldable pub releasesEarly : Card → List ℕ → CardResult
 releasesEarly c s =
-    let r = specified .sealing c s in
+    let r = specifiedCard .sealing c s in
     let k = r .card in
     record {
       refusal = r .refusal;
@@ -182,17 +200,21 @@ releasesEarly c s =
 
 -- It reads acknowledgements and does nothing about them.
 unfoldable pub ignoresAcks : Card → List ℕ → List ℕ → CardResult
-ignoresAcks c s f = handedOver (specified .reading c s f .refusal) c s []
+ignoresAcks c s f = handedOver (specifiedCard .reading c s f .refusal) c s []
 
 -- Its opening takes its own ID for its peer's.
 unfoldable pub swapsIds : ℕ → ℕ → ℕ → List ℕ → CardResult
-swapsIds own peer limit slots = specified .cardOpening peer own limit slots
+swapsIds own peer limit slots = specifiedCard .cardOpening peer own limit slots
+
+-- It hands out what is in the slot of the frame after the one asked for.
+unfoldable pub showsOther : Card → List ℕ → ℕ → CardResult
+showsOther c s n = handedOver (specifiedCard .showing c s n .refusal) c s (specifiedCard .showing c s (suc n) .part)
 
 -- It refuses every message.
 abbrev pub addsNothing : Implementation
 addsNothing =
-    withCardSteps (specified .cardOpening) (λ c slots t at bytes. handedOver 23 c slots []) (specified .sealing)
-    (specified .reading)
+    withCardSteps (specifiedCard .cardOpening) (λ c slots t at bytes. handedOver 23 c slots []) (specifiedCard .sealing)
+    (specifiedCard .reading) (specifiedCard .showing)
 
 -- ---- the older host
 

@@ -1,0 +1,4 @@
+pub mod HostStep
+pub mod HostFrame
+pub mod HostArrive
+pub mod Receive

@@ -1,0 +1,447 @@
+-- The limits of lateness, at their edge: after n rounds frame 0 comes once more, or its acknowledgement does, n numbers
+-- late. Up to 32,768 the list meets the premises, and demand 3 gives that the frame is answered "again", counted once
+-- and not written again. At 32,769 the premise fails; the copy's number then lies ahead of the host's window, and the
+-- host refuses it with 6. Assumes nothing.
+use Prim.Native.Nat.{ℕ, zero, suc, _+_, _-_, _≤_, _<_}
+use native.Mathlib.Nat.{add-zero}
+use native.Mathlib.Omega.{arith}
+use mathlib.Core.Path.{_≡_, refl, sym, ap, _∙_, subst}
+use mathlib.Core.Bool.{true, false}
+use mathlib.Core.List.{List, [], _∷_, _++_, map, append-nil}
+use mathlib.Core.Option.{some}
+use borrow.Author.Tests.{le-leb, lt-leb}
+use lib.Dec.{lit≤, lit<}
+use lib.ListN.{length, getD, getElem?}
+use Rattle.seq.specs.Ring.{distance, frameSpace}
+use Rattle.seq.proofs.Ring.{distance-behind}
+use Rattle.host.specs.Host.{Received, unchanged, refused, receiveOf}
+use Rattle.host.proofs.Receiving.{by-number-ahead}
+use Rattle.wire.specs.Format.{needed}
+use Rattle.send_window.specs.Window.{unreleased}
+use Rattle.delivery.specs.Book.{
+  MessageRecord,
+  FrameRecord,
+  AckRange,
+  covers,
+  oneFrame,
+  HandOut,
+  frameCopy,
+  Expected,
+  expectAgain,
+  expectNoEffect,
+  Book,
+  messagesIn,
+  isAccepted,
+  frameAt,
+  lowestNotAccepted,
+  releasedCount,
+  acceptedMessages,
+  ofTransaction,
+  allMessagesIn,
+  perform,
+  dataWrites,
+  writesOf,
+  bookWrites,
+  bookMemory,
+  changeAt,
+  markWhere,
+  markAcknowledged,
+  markAccepted,
+  withFrames,
+  enterAck,
+  enterArrival,
+  bookFrom,
+  emptyBook,
+  bookOf,
+}
+use Rattle.delivery.specs.System.{
+  Event,
+  reads,
+  receives,
+  System,
+  Run,
+  byCard,
+  byHost,
+  step,
+  run,
+  initial,
+  specifiedHost,
+  specified,
+  hostStep,
+}
+use Rattle.delivery.specs.Demand3.{
+  typed,
+  allTyped,
+  copyLateMost,
+  ackLateMost,
+  frameInTime,
+  ackInTime,
+  inTime,
+  notTooLate,
+  WritesAllowed,
+  outcomeOf,
+  seenAs,
+  numberedAs,
+  messagesSum,
+  Guarantees,
+  Demand3For,
+}
+use Rattle.delivery.proofs.Lists.Check.{slots₀}
+use Rattle.delivery.proofs.Book.Along.{last, last-is, last-plain}
+use Rattle.delivery.proofs.Book.Counts.{not-full}
+use Rattle.delivery.proofs.Demand.{demand3}
+use Rattle.delivery.proofs.Lists.Entered.{reading-entered}
+use Rattle.delivery.proofs.Lists.Rounds.{
+  message,
+  done,
+  past,
+  past-length,
+  past-done,
+  past-leads,
+  past-where,
+  first,
+  second,
+  memory,
+  page,
+  message-fits,
+  bares,
+  page-allowed,
+}
+use Rattle.delivery.proofs.Lists.RoundsRun.{
+  rounds,
+  opening,
+  For,
+  cardFits,
+  hostFits,
+  roundCopies,
+  roundAcks,
+  Arrival,
+  by-its-number,
+  Leads,
+  Leading,
+  before,
+  arrived,
+  both-open,
+  whole,
+}
+
+-- ---- the lists
+
+lateCopy : ℕ → List Event
+lateCopy n = opening (rounds n 0 (receives 0 ∷ []))
+
+lateAck : ℕ → List Event
+lateAck n = opening (rounds n 0 (reads 0 ∷ []))
+
+abbrev ran : List Event → Run
+ran events = run specified (initial specified 2 1 64 slots₀ memory) events
+
+abbrev bookAfter : List Event → Book
+bookAfter events = bookOf memory (ran events .observations)
+
+-- The premises of demand 3 on a list, for a card 2 and a host 1.
+record Premises (events : List Event) : Type 0 where
+  typedAll : allTyped events ≡ true
+  inTimeAll : notTooLate (emptyBook memory) (ran events .observations) ≡ true
+  writes : WritesAllowed (bookAfter events)
+
+-- ---- after n rounds
+
+in-turn : (w : System) (b : Book) (k c : ℕ) (e : MessageRecord) → Arrival w b k c e → lowestNotAccepted b ≡ c
+    → step specified w (receives k) ≡ hostStep specifiedHost w k
+unfolding step
+in-turn w b k c e a q = refl
+
+head-stays : {A : Type 0} (xs ys : List A) (x : A) → getElem? xs 0 ≡ some x → getElem? (xs ++ ys) 0 ≡ some x
+head-stays [] ys x q = absurd (let z : _≡_ {A = ℕ} 0 1 = cc in omega arith)
+head-stays (y ∷ xs) ys x q = q
+
+first-copy : (n : ℕ) → 0 < n → getElem? (roundCopies n) 0 ≡ some (frameCopy 0)
+unfolding roundCopies
+first-copy zero h = absurd (omega arith)
+first-copy (suc zero) h = refl
+first-copy (suc (suc n)) h =
+    head-stays (roundCopies (suc n)) (frameCopy (suc n) ∷ []) (frameCopy 0) (first-copy (suc n) (omega arith))
+
+first-ack : (n : ℕ) → 0 < n → getElem? (roundAcks n) 0 ≡ some (oneFrame 0)
+unfolding roundAcks
+first-ack zero h = absurd (omega arith)
+first-ack (suc zero) h = refl
+first-ack (suc (suc n)) h = head-stays (roundAcks (suc n)) (oneFrame (suc n) ∷ []) (oneFrame 0)
+    (first-ack (suc n) (omega arith))
+
+-- a frame that is through, marked again
+past-same : (n : ℕ) (f : FrameRecord → FrameRecord) → f done ≡ done → changeAt (past n []) 0 f ≡ past n []
+unfolding past changeAt
+past-same zero f q = refl
+past-same (suc n) f q = ap {B = List FrameRecord} (λ x. x ∷ past n []) q
+
+-- the messages accepted: one of transaction 0 for each round, without bytes
+abbrev through : ℕ → List MessageRecord
+through n = messagesIn isAccepted (past n [])
+
+through-length : (n : ℕ) → length (through n) ≡ n
+unfolding past messagesIn
+through-length zero = refl
+through-length (suc n) = ap suc (through-length n)
+
+through-zero : (n : ℕ) → ofTransaction 0 (through n) ≡ through n
+unfolding past messagesIn ofTransaction
+through-zero zero = refl
+through-zero (suc n) = ap {B = List MessageRecord} (λ r. message 0 ∷ r) (through-zero n)
+
+through-one : (n : ℕ) → ofTransaction 1 (through n) ≡ []
+unfolding past messagesIn ofTransaction
+through-one zero = refl
+through-one (suc n) = through-one n
+
+through-unwritten : (n : ℕ) (m : List ℕ) → perform m (dataWrites (through n)) ≡ m
+unfolding past messagesIn dataWrites perform
+through-unwritten zero m = refl
+through-unwritten (suc n) m = through-unwritten n m
+
+module _ (n : ℕ) (hs : List HandOut) (ds : List AckRange) (ys : List Expected) where
+  page-memory : n < 65535 → bookMemory (page n [] [] hs ds ys) ≡ memory
+  unfolding bookMemory bookWrites writesOf dataWrites needed
+  page-memory few =
+      let one : allMessagesIn first 0 (through n) ≡ false =
+      not-full first 0 (through n) (omega (arith, ap length (through-zero n), through-length n)) in
+      let two : allMessagesIn second 1 (through n) ≡ false =
+      not-full second 1 (through n) (omega (arith, ap length (through-one n))) in
+      rw (
+        one,
+        two,
+        through-zero n,
+        through-one n,
+        append-nil (dataWrites (through n)),
+        append-nil
+            (dataWrites (through n)),
+      )
+      (through-unwritten n memory)
+
+module _ (n : ℕ) (some-round : 0 < n) (ys : List Expected) where
+  abbrev now : Book
+  now = page n [] [] (roundCopies n) (roundAcks n) ys
+
+  lowest : lowestNotAccepted now ≡ n
+  lowest = past-leads (λ x. x .accepted) refl n [] refl
+
+  released : releasedCount now ≡ n
+  released = past-leads (λ x. x .acknowledged) refl n [] refl
+
+  first-through : frameAt now 0 ≡ done
+  first-through = past-done n 0 [] some-round
+
+  -- the book after frame 0 came once more, and after its acknowledgement did
+  abbrev copied : Book
+  copied = page n [] [] (roundCopies n) (roundAcks n ++ (oneFrame 0 ∷ [])) (ys ++ (expectAgain 0 ∷ []))
+
+  copy-entered : enterArrival now 0 ≡ copied
+  unfolding enterArrival
+  copy-entered = rw (ap (λ (x : FrameRecord). x .accepted) first-through, past-same n markAccepted refl)
+
+  ack-entered : enterAck now (some (oneFrame 0)) ≡ now
+  unfolding enterAck markWhere
+  ack-entered = ap (λ (l : List FrameRecord). withFrames now l [])
+      (past-where markAcknowledged refl (covers (oneFrame 0)) n [])
+
+  arrival : (w : System) → For w now → Arrival w now 0 0 (message 0)
+  arrival w f = record {
+    agree = f;
+    copied = first-copy n some-round;
+    holds = ap (λ (x : FrameRecord). x .messages) first-through;
+    fits = message-fits 0 (lit< tt);
+  }
+
+-- ---- a copy in time
+
+-- how the list ends: the book expects "again" last
+record AgainLast (n : ℕ) (w : System) (b : Book) : Type 0 where
+  handOuts : List HandOut
+  acksDue : List AckRange
+  earlier : List Expected
+  bookIs : b ≡ page n [] [] handOuts acksDue (earlier ++ (expectAgain 0 ∷ []))
+
+copy-leads : (n : ℕ) → 0 < n → n ≤ 32768 → (ys : List Expected)
+    → Leading receiveOf in-turn true (AgainLast n) (receives 0 ∷ []) (page n [] [] (roundCopies n) (roundAcks n) ys)
+unfolding typed allTyped run bookFrom notTooLate inTime frameInTime messagesIn
+copy-leads n h few ys w f =
+    before receiveOf in-turn true (AgainLast n) (receives 0) [] w (now n h ys) (copied n h ys) refl
+    (rw (first-copy n h) (le-leb (lowestNotAccepted (now n h ys)) (0 + copyLateMost) (omega (arith, lowest n h ys))))
+    (arrived receiveOf in-turn true (AgainLast n) w (now n h ys) 0 0 (message 0) (arrival n h ys w f)
+    ∙ copy-entered n h ys)
+    (record {
+      fitting = refl;
+      timing = refl;
+      allowed = page-allowed n [] (bares []) _ _ _;
+      reached = record { handOuts = _; acksDue = _; earlier = ys; bookIs = refl };
+    })
+
+-- What demand 3 gives: frame 0 was answered "again" at last, n messages were counted for n rounds, and memory is as it
+-- was.
+record CopyAgain (n : ℕ) : Type 0 where
+  premises : Premises (lateCopy n)
+  again : last expectNoEffect (map seenAs (ran (lateCopy n) .system .answers)) ≡ expectAgain 0
+  counted : messagesSum (ran (lateCopy n) .system .answers) ≡ n
+  unwritten : ran (lateCopy n) .system .memory ≡ memory
+
+guaranteed : (events : List Event) → Premises events → Guarantees (outcomeOf (ran events .system)) (bookAfter events)
+unfolding Demand3For
+guaranteed events p =
+    demand3 2 1 64 slots₀ memory events (both-open receiveOf in-turn true (λ w b. Unit {0}))
+    (p .typedAll) (p .inTimeAll) (p .writes)
+
+copy-in-time : (n : ℕ) → 0 < n → n ≤ 32768 → CopyAgain n
+unfolding lateCopy numberedAs
+copy-in-time n h few = go (whole receiveOf in-turn true (AgainLast n) n (omega arith) (receives 0 ∷ [])
+    (copy-leads n h few))
+  where
+    go : Leads receiveOf in-turn true (AgainLast n) (lateCopy n) (initial specified 2 1 64 slots₀ memory)
+        (emptyBook memory)
+        → CopyAgain n
+    go l =
+        let p : Premises (lateCopy n) =
+        record {
+          typedAll = l .fitting;
+          inTimeAll = l .timing;
+          writes = l .allowed;
+        } in
+        let g = guaranteed (lateCopy n) p in
+        let e = l .reached in
+        record {
+          premises = p;
+          again =
+              ap (last expectNoEffect) (g .answersMatch)
+              ∙ ap (λ (b : Book). last expectNoEffect (map numberedAs (b .expected))) (e .bookIs)
+              ∙ last-is numberedAs (e .earlier) (expectAgain 0) expectNoEffect;
+          counted = g .messagesAgree ∙ ap (λ (b : Book). length (acceptedMessages b)) (e .bookIs) ∙ through-length n;
+          unwritten =
+              g .memoryAgrees ∙ ap bookMemory (e .bookIs)
+              ∙ page-memory n (e .handOuts) (e .acksDue) (e .earlier ++ (expectAgain 0 ∷ [])) (omega arith);
+        }
+
+copy-at-limit : CopyAgain 32768
+copy-at-limit = copy-in-time 32768 (lit< tt) (lit≤ tt)
+
+-- ---- a copy too late
+
+record CopyRefused (n : ℕ) : Type 0 where
+  premiseFails : notTooLate (emptyBook memory) (ran (lateCopy n) .observations) ≡ false
+  answer : last (refused 0 0) (ran (lateCopy n) .system .answers) ≡ refused 6 0
+
+abbrev RefusedLast : System → Book → Type 0
+RefusedLast w b = last (refused 0 0) (w .answers) ≡ refused 6 0
+
+late-leads : (n : ℕ) → 32768 < n → n ≤ 65472 → (ys : List Expected)
+    → Leading receiveOf in-turn false RefusedLast (receives 0 ∷ []) (page n [] [] (roundCopies n) (roundAcks n) ys)
+unfolding typed allTyped run bookFrom notTooLate inTime frameInTime messagesIn step byHost
+late-leads n far few ys w f = record {
+  fitting = refl;
+  timing = rw (first-copy n h, lt-leb (lowestNotAccepted here) (0 + copyLateMost) (omega (arith, lowest n h ys))) refl;
+  allowed =
+      subst WritesAllowed (sym (arrived receiveOf in-turn true RefusedLast w here 0 0 (message 0) a
+      ∙ copy-entered n h ys))
+      (page-allowed n [] (bares []) _ _ _);
+  reached =
+      subst (λ (r : Received). last (refused 0 0) (w .answers ++ (r .answer ∷ [])) ≡ refused 6 0) (sym ahead)
+      (last-plain (w .answers) (refused 6 0) (refused 0 0));
+}
+  where
+    h : 0 < n
+    h = omega arith
+
+    here : Book
+    here = now n h ys
+
+    a : Arrival w here 0 0 (message 0)
+    a = arrival n h ys w f
+
+    d : distance frameSpace (w .host .next .0) 0 ≡ 65536 - n
+    d =
+        rw (f .rest .hostFor .nextIs, lowest n h ys)
+        (distance-behind frameSpace (lit< tt) n 0 (omega arith) (omega arith) ∙ omega arith)
+
+    ahead : receiveOf (w .host) (getD (w .handOuts) 0 []) (w .memory) ≡ unchanged (w .host) (w .memory) (refused 6 0)
+    ahead =
+        by-its-number w here 0 0 (message 0) a
+        ∙ by-number-ahead (w .host) (w .memory) 0 (65536 - n) _ (sym d) (omega arith) (omega arith)
+
+copy-too-late : (n : ℕ) → 32768 < n → n ≤ 65472 → CopyRefused n
+unfolding lateCopy
+copy-too-late n far few =
+    let l = whole receiveOf in-turn false RefusedLast n (omega arith) (receives 0 ∷ []) (late-leads n far few) in
+    record { premiseFails = l .timing; answer = l .reached }
+
+-- ---- an acknowledgement
+
+abbrev Through : ℕ → System → Book → Type 0
+Through n w b = (hs : List HandOut) × (ds : List AckRange) × (ys : List Expected) × (b ≡ page n [] [] hs ds ys)
+
+ack-leads : (n : ℕ) → 0 < n → n ≤ 32768 → (ys : List Expected)
+    → Leading receiveOf in-turn true (Through n) (reads 0 ∷ []) (page n [] [] (roundCopies n) (roundAcks n) ys)
+unfolding typed allTyped run bookFrom notTooLate inTime ackInTime messagesIn step
+ack-leads n h few ys w f =
+    before receiveOf in-turn true (Through n) (reads 0) [] w (now n h ys) (now n h ys) refl
+    (rw (first-ack n h) (le-leb (releasedCount (now n h ys)) (0 + ackLateMost) (omega (arith, released n h ys))))
+    (reading-entered 2 1 cardFits hostFits w (now n h ys) f 0 (oneFrame 0) (first-ack n h) ∙ ack-entered n h ys)
+    (record {
+      fitting = refl;
+      timing = refl;
+      allowed = page-allowed n [] (bares []) _ _ _;
+      reached = (_, _, ys, refl);
+    })
+
+-- What demand 3 gives: all n frames are released, and none twice.
+record AckAgain (n : ℕ) : Type 0 where
+  premises : Premises (lateAck n)
+  released : length (bookAfter (lateAck n) .frames) ≡ n
+  noneLeft : unreleased (ran (lateAck n) .system .card .window) ≡ 0
+
+ack-in-time : (n : ℕ) → 0 < n → n ≤ 32768 → AckAgain n
+unfolding lateAck
+ack-in-time n h few = go (whole receiveOf in-turn true (Through n) n (omega arith) (reads 0 ∷ []) (ack-leads n h few))
+  where
+    go : Leads receiveOf in-turn true (Through n) (lateAck n) (initial specified 2 1 64 slots₀ memory)
+        (emptyBook memory)
+        → AckAgain n
+    go l =
+        let p : Premises (lateAck n) =
+        record {
+          typedAll = l .fitting;
+          inTimeAll = l .timing;
+          writes = l .allowed;
+        } in
+        let g = guaranteed (lateAck n) p in
+        let e = l .reached .3 in
+        let sealed : length (bookAfter (lateAck n) .frames) ≡ n =
+        ap (λ (b : Book). length (b .frames)) e ∙ past-length n [] ∙ add-zero n in
+        let free : releasedCount (bookAfter (lateAck n)) ≡ n =
+        ap releasedCount e ∙ past-leads (λ x. x .acknowledged) refl n [] refl in
+        record { premises = p; released = sealed; noneLeft = omega (arith, g .releasedAgrees, sealed, free) }
+
+ack-at-limit : AckAgain 32768
+ack-at-limit = ack-in-time 32768 (lit< tt) (lit≤ tt)
+
+ack-too-late : (n : ℕ) → 32768 < n → n ≤ 65535
+    → notTooLate (emptyBook memory) (ran (lateAck n) .observations) ≡ false
+unfolding lateAck typed allTyped run bookFrom notTooLate inTime ackInTime messagesIn step byCard
+ack-too-late n far few = whole receiveOf in-turn false (λ w b. Unit {0}) n few (reads 0 ∷ []) leads .timing
+  where
+    h : 0 < n
+    h = omega arith
+
+    leads : (ys : List Expected)
+        → Leading receiveOf in-turn false (λ w b. Unit {0}) (reads 0 ∷ [])
+        (page n [] [] (roundCopies n) (roundAcks n) ys)
+    leads ys w f = record {
+      fitting = refl;
+      timing =
+          rw (first-ack n h, lt-leb (releasedCount (now n h ys)) (0 + ackLateMost) (omega (arith, released n h ys)))
+          refl;
+      allowed =
+          subst WritesAllowed
+          (sym (reading-entered 2 1 cardFits hostFits w (now n h ys) f 0 (oneFrame 0) (first-ack n h)
+          ∙ ack-entered n h ys))
+          (page-allowed n [] (bares []) _ _ _);
+      reached = tt;
+    }

@@ -1,0 +1,268 @@
+-- What demand 3 shuts out: for each wrong pair of ends a list of calls that meets the premises, where the demand's
+-- conclusion is false. And what it does not: a card that adds nothing meets it. Assumes nothing.
+use Prim.Native.Nat.{ℕ, zero, suc, _<_}
+use native.Mathlib.Omega.{arith}
+use mathlib.Core.Path.{_≡_, refl, ap}
+use mathlib.Core.Bool.{true}
+use mathlib.Core.List.{List, [], _∷_}
+use lib.ListN.{getD, replicate}
+use Rattle.seq.specs.Ring.{frameSpace}
+use Rattle.delivery.specs.Book.{Expected, expectAccepted, expectAgain, expectNoEffect, enter}
+use Rattle.delivery.specs.System.{
+  specifiedCard,
+  openCall,
+  addCall,
+  sealCall,
+  readCall,
+  showCall,
+  chooseCall,
+  calls,
+  Event,
+  opens,
+  adds,
+  seals,
+  reads,
+  shows,
+  receives,
+  acksFor,
+  byCard,
+  byHost,
+  step,
+  initial,
+}
+use Rattle.delivery.specs.Demand3.{Demand3For}
+use Rattle.delivery.specs.WrongEnds.{
+  Receiving,
+  withHost,
+  withAcknowledging,
+  withCardSteps,
+  refusesAll,
+  againToAll,
+  writesFirst,
+  acknowledgesRest,
+  reporting,
+  invents,
+  windowShort,
+  forgets,
+  takesForOld,
+  completesEarly,
+  neverCompletes,
+  acksTwo,
+  silentOnAgain,
+  releasesEarly,
+  ignoresAcks,
+  swapsIds,
+  showsOther,
+  addsNothing,
+}
+use Rattle.delivery.proofs.Card.CardSteps.{stays}
+use Rattle.delivery.proofs.Demand.{KeepsAgreement, starts, step-any, demand3-by}
+use Rattle.delivery.proofs.Lists.Check.{passes, applied}
+use Rattle.delivery.proofs.Lists.Computing.{computing}
+
+-- The kind of the k-th answer, as a number.
+unfoldable pub kind : Expected → ℕ
+kind (expectAccepted c sums) = 1
+kind (expectAgain c) = 2
+kind expectNoEffect = 3
+
+kindAt : ℕ → List Expected → ℕ
+kindAt k xs = kind (getD xs k expectNoEffect)
+
+-- ---- hosts that answer or write at will
+
+-- Two transactions of one byte each, a frame each, delivered in order.
+inOrder : List Event
+inOrder =
+    opens 1 0 1 ∷ adds 0 4 (9 ∷ []) ∷ seals ∷ shows 0 ∷ receives 0
+    ∷ opens 1 5 1 ∷ adds 1 9 (9 ∷ []) ∷ seals ∷ shows 1 ∷ receives 1 ∷ []
+
+-- The premises do not depend on the host.
+met : (r : Receiving) → passes (withHost r) (replicate 10 0) inOrder ≡ true
+unfolding computing inOrder
+met r = refl
+
+not-refusesAll : Demand3For (withHost refusesAll) → ⊥
+unfolding computing inOrder refusesAll kind kindAt
+not-refusesAll d =
+    let z : _≡_ {A = ℕ} 3 1 = ap (kindAt 0) (applied _ d (replicate 10 0) inOrder (met refusesAll) .answersMatch) in
+    omega arith
+
+not-againToAll : Demand3For (withHost againToAll) → ⊥
+unfolding computing inOrder againToAll kind kindAt
+not-againToAll d =
+    let z : _≡_ {A = ℕ} 2 1 = ap (kindAt 0) (applied _ d (replicate 10 0) inOrder (met againToAll) .answersMatch) in
+    omega arith
+
+not-writesFirst : Demand3For (withHost writesFirst) → ⊥
+unfolding computing inOrder writesFirst
+not-writesFirst d =
+    let z : _≡_ {A = ℕ} 0 9 =
+    ap (λ m. getD m 9 0) (applied _ d (replicate 10 0) inOrder (met writesFirst) .memoryAgrees) in
+    omega arith
+
+not-acknowledgesRest : Demand3For (withHost acknowledgesRest) → ⊥
+unfolding computing inOrder acknowledgesRest kind kindAt
+not-acknowledgesRest d =
+    let z : _≡_ {A = ℕ} 2 1 = ap (kindAt 1) (applied _ d (replicate 10 0) inOrder (met acknowledgesRest) .answersMatch)
+    in
+    omega arith
+
+messagesOf : Expected → ℕ
+messagesOf (expectAccepted c s) = s .messages
+messagesOf (expectAgain c) = 0
+messagesOf expectNoEffect = 0
+
+bytesIn : Expected → ℕ
+bytesIn (expectAccepted c s) = s .bytes
+bytesIn (expectAgain c) = 0
+bytesIn expectNoEffect = 0
+
+completedIn : Expected → ℕ
+completedIn (expectAccepted c s) = s .completed
+completedIn (expectAgain c) = 0
+completedIn expectNoEffect = 0
+
+-- It reports right numbers.
+not-invents : (f g k : ℕ → ℕ) → Demand3For (withHost (invents f g k)) → (f 1 ≡ 1) × (g 1 ≡ 1) × (k 1 ≡ 1)
+unfolding computing inOrder invents reporting messagesOf bytesIn completedIn
+not-invents f g k d =
+    let e = applied _ d (replicate 10 0) inOrder (met (invents f g k)) .answersMatch in (
+      ap (λ xs. messagesOf (getD xs 0 expectNoEffect)) e,
+      ap (λ xs. bytesIn (getD xs 0 expectNoEffect)) e,
+      ap (λ xs. completedIn (getD xs 0 expectNoEffect)) e,
+    )
+
+-- ---- hosts with one fault
+
+manyOpens : ℕ → List Event → List Event
+manyOpens zero xs = xs
+manyOpens (suc n) xs = opens 0 0 0 ∷ manyOpens n xs
+
+lastOfWindow : List Event
+lastOfWindow = manyOpens 32 (adds 31 0 [] ∷ seals ∷ shows 0 ∷ receives 0 ∷ [])
+
+not-windowShort : Demand3For (withHost windowShort) → ⊥
+unfolding computing lastOfWindow manyOpens windowShort kind kindAt
+not-windowShort d =
+    let z : _≡_ {A = ℕ} 3 1 = ap (kindAt 0) (applied _ d (replicate 4 0) lastOfWindow refl .answersMatch) in
+    omega arith
+
+twice : List Event
+twice = opens 2 0 1 ∷ adds 0 4 (9 ∷ []) ∷ seals ∷ shows 0 ∷ receives 0 ∷ receives 0 ∷ []
+
+not-forgets : Demand3For (withHost forgets) → ⊥
+unfolding computing twice forgets kind kindAt
+not-forgets d =
+    let z : _≡_ {A = ℕ} 1 2 = ap (kindAt 1) (applied _ d (replicate 10 0) twice refl .answersMatch) in
+    omega arith
+
+swapped : List Event
+swapped =
+    opens 2 0 1 ∷ adds 0 4 (9 ∷ []) ∷ seals ∷ adds 0 5 (9 ∷ []) ∷ seals
+    ∷ shows 0 ∷ shows 1 ∷ receives 1 ∷ receives 0 ∷ []
+
+not-takesForOld : Demand3For (withHost takesForOld) → ⊥
+unfolding computing swapped takesForOld kind kindAt
+not-takesForOld d =
+    let z : _≡_ {A = ℕ} 2 1 = ap (kindAt 1) (applied _ d (replicate 6 0) swapped refl .answersMatch) in
+    omega arith
+
+-- Of two messages one arrives: no completion yet.
+not-completesEarly : Demand3For (withHost completesEarly) → ⊥
+unfolding computing twice completesEarly
+not-completesEarly d =
+    let z : _≡_ {A = ℕ} 1 0 = ap (λ m. getD m 0 0) (applied _ d (replicate 10 0) twice refl .memoryAgrees) in
+    omega arith
+
+not-neverCompletes : Demand3For (withHost neverCompletes) → ⊥
+unfolding computing inOrder neverCompletes
+not-neverCompletes d =
+    let z : _≡_ {A = ℕ} 0 1 =
+    ap (λ m. getD m 0 0) (applied _ d (replicate 10 0) inOrder (met neverCompletes) .memoryAgrees) in
+    omega arith
+
+oneOfTwo : List Event
+oneOfTwo =
+    opens 2 0 1 ∷ adds 0 4 (9 ∷ []) ∷ seals ∷ adds 0 5 (9 ∷ []) ∷ seals ∷ shows 0 ∷ receives 0 ∷ reads 0 ∷ []
+
+not-acksTwo : Demand3For (withAcknowledging acksTwo) → ⊥
+unfolding computing oneOfTwo acksTwo
+not-acksTwo d =
+    let z : _≡_ {A = ℕ} 2 1 = applied _ d (replicate 6 0) oneOfTwo refl .releasedAgrees in
+    omega arith
+
+-- The second acknowledgement called for is of frame 0 again, and not yet of frame 1.
+repeated : List Event
+repeated =
+    opens 2 0 1 ∷ adds 0 4 (9 ∷ []) ∷ seals ∷ adds 0 5 (9 ∷ []) ∷ seals ∷ shows 0 ∷ shows 1
+    ∷ receives 0 ∷ receives 0 ∷ receives 1 ∷ reads 1 ∷ []
+
+not-silentOnAgain : Demand3For (withAcknowledging silentOnAgain) → ⊥
+unfolding computing repeated silentOnAgain
+not-silentOnAgain d =
+    let z : _≡_ {A = ℕ} 2 3 = applied _ d (replicate 6 0) repeated refl .releasedAgrees in
+    omega arith
+
+-- ---- cards
+
+sealedOne : List Event
+sealedOne = opens 0 0 0 ∷ adds 0 0 [] ∷ seals ∷ []
+
+not-releasesEarly : Demand3For (withCardSteps (specifiedCard .cardOpening) (specifiedCard .adding) releasesEarly
+    (specifiedCard .reading) (specifiedCard .showing)) → ⊥
+unfolding computing sealedOne releasesEarly
+not-releasesEarly d =
+    let z : _≡_ {A = ℕ} 1 0 = applied _ d (replicate 4 0) sealedOne refl .releasedAgrees in
+    omega arith
+
+acknowledgedOne : List Event
+acknowledgedOne = opens 0 0 0 ∷ adds 0 0 [] ∷ seals ∷ shows 0 ∷ receives 0 ∷ reads 0 ∷ []
+
+not-ignoresAcks : Demand3For (withCardSteps (specifiedCard .cardOpening) (specifiedCard .adding)
+    (specifiedCard .sealing) ignoresAcks (specifiedCard .showing)) → ⊥
+unfolding computing acknowledgedOne ignoresAcks
+not-ignoresAcks d =
+    let z : _≡_ {A = ℕ} 1 2 = applied _ d (replicate 4 0) acknowledgedOne refl .releasedAgrees in
+    omega arith
+
+not-swapsIds : Demand3For (withCardSteps swapsIds (specifiedCard .adding) (specifiedCard .sealing)
+    (specifiedCard .reading) (specifiedCard .showing)) → ⊥
+unfolding computing inOrder swapsIds kind kindAt
+not-swapsIds d =
+    let z : _≡_ {A = ℕ} 3 1 = ap (kindAt 0) (applied _ d (replicate 10 0) inOrder refl .answersMatch) in
+    omega arith
+
+sealedTwo : List Event
+sealedTwo =
+    opens 2 0 1 ∷ adds 0 4 (9 ∷ []) ∷ seals ∷ adds 0 5 (9 ∷ []) ∷ seals ∷ shows 0 ∷ receives 0 ∷ []
+
+countIn : Expected → ℕ
+countIn (expectAccepted c s) = c
+countIn (expectAgain c) = c
+countIn expectNoEffect = 0
+
+not-showsOther : Demand3For (withCardSteps (specifiedCard .cardOpening) (specifiedCard .adding) (specifiedCard .sealing)
+    (specifiedCard .reading) showsOther) → ⊥
+unfolding computing sealedTwo showsOther countIn
+not-showsOther d =
+    let z : _≡_ {A = ℕ} 1 0 =
+    ap (λ xs. countIn (getD xs 0 expectNoEffect)) (applied _ d (replicate 6 0) sealedTwo refl .answersMatch) in
+    omega arith
+
+-- A card that adds nothing meets demand 3: the demand asks nothing to be sent. (Nor does it speak of the numbers that
+-- opening and sealing hand back: a CardResult has none.)
+adds-nothing : Demand3For addsNothing
+unfolding step enter byCard byHost acksFor initial
+adds-nothing = demand3-by addsNothing starts keeps
+  where
+    keeps : (cardId hostId : ℕ) (p : cardId < frameSpace) (q : hostId < frameSpace)
+        → KeepsAgreement cardId hostId p q addsNothing
+    keeps c h p q w b f (calls (openCall count address value)) t i k =
+        step-any c h p q w b f (calls (openCall count address value)) t i k
+    keeps c h p q w b f (calls (addCall n at bytes)) t i k = stays c h p q w b f
+    keeps c h p q w b f (calls sealCall) t i k = step-any c h p q w b f (calls sealCall) t i k
+    keeps c h p q w b f (calls (readCall n)) t i k = step-any c h p q w b f (calls (readCall n)) t i k
+    keeps c h p q w b f (calls (showCall n)) t i k = step-any c h p q w b f (calls (showCall n)) t i k
+    keeps c h p q w b f (calls (chooseCall ack)) t i k = step-any c h p q w b f (calls (chooseCall ack)) t i k
+    keeps c h p q w b f (receives n) t i k = step-any c h p q w b f (receives n) t i k
