@@ -66,7 +66,7 @@ use Rattle.delivery.proofs.Book.Steps.{sound-empty}
 use Rattle.delivery.proofs.Book.Answers.{timesExpected, times-seen}
 use Rattle.delivery.proofs.Book.AllFinished.{whole-memory, whole-complete, whole-bytes, whole-messages}
 use Rattle.delivery.proofs.Book.Earlier.{allowed-before}
-use Rattle.delivery.proofs.Host.HostStep.{place, fullAt, full-beyond}
+use Rattle.delivery.proofs.Host.HostStep.{entry, fullAt, full-beyond}
 use Rattle.delivery.proofs.Card.CardFor.{unreleased-is, unopened}
 use Rattle.delivery.proofs.Agree.{SystemFor}
 use Rattle.delivery.proofs.Card.CardSteps.{step-card}
@@ -114,23 +114,23 @@ module _ (cardId hostId : ℕ) (cardFits : cardId < frameSpace) (hostFits : host
       (allowed-before b′ later k))
       (fitting .1) (timely .1) k
 
-  -- what agreement comes to
+  -- What agreement comes to. Each line rewrites with its fact, so that it shows whatever follows from that.
   guaranteed : (w : System) (b : Book) → For w b → Guarantees (outcomeOf w) b
   guaranteed w b f = record {
-    answersMatch = f .rest .traffic .matching;
-    acceptedOnce = once;
-    releasedAccepted = λ c h. once c (released-accepted b (f .sound) c (omega (arith, released)));
-    releasedAgrees = released;
-    noneOver = f .sound .atMost;
+    answersMatch = rw (f .rest .traffic .matching) refl;
+    acceptedOnce = λ c e. rw (once c e) refl;
+    releasedAccepted = λ c h. rw (once c (released-accepted b (f .sound) c (omega (arith, released)))) refl;
+    releasedAgrees = omega (arith, released);
+    noneOver = λ i h. omega (arith, f .sound .atMost i h);
     memoryAgrees = rw (f .rest .memoryIs) refl;
-    messagesAgree = f .rest .sums .messagesAre;
-    bytesAgree = f .rest .sums .bytesAre;
-    completeAgree = f .rest .sums .completeAre;
+    messagesAgree = rw (f .rest .sums .messagesAre) refl;
+    bytesAgree = rw (f .rest .sums .bytesAre) refl;
+    completeAgree = rw (f .rest .sums .completeAre) refl;
     whenAllFinished = λ all. record {
-      messagesWhole = f .rest .sums .messagesAre ∙ whole-messages b (f .sound) all;
-      bytesWhole = f .rest .sums .bytesAre ∙ whole-bytes b (f .sound) all;
-      completeWhole = f .rest .sums .completeAre ∙ whole-complete b (f .sound) all;
-      memoryInTurn = f .rest .memoryIs ∙ whole-memory b (f .sound) all;
+      messagesWhole = rw (f .rest .sums .messagesAre ∙ whole-messages b (f .sound) all) refl;
+      bytesWhole = rw (f .rest .sums .bytesAre ∙ whole-bytes b (f .sound) all) refl;
+      completeWhole = rw (f .rest .sums .completeAre ∙ whole-complete b (f .sound) all) refl;
+      memoryInTurn = rw (f .rest .memoryIs ∙ whole-memory b (f .sound) all) refl;
     };
   }
     where
@@ -152,9 +152,9 @@ module _ (cardId hostId : ℕ) (cardFits : cardId < frameSpace) (hostFits : host
   unfolding ofTransaction
   empty-full i = full-beyond [] [] i refl
 
-  empty-place : (i : ℕ) → place [] [] i ≡ free
-  unfolding place ofTransaction
-  empty-place i = rw (empty-full i) refl
+  empty-entry : (i : ℕ) → entry [] [] i ≡ free
+  unfolding entry ofTransaction
+  empty-entry i = rw (empty-full i) refl
 
   opened-card : (limit : ℕ) (slots : List ℕ) → openCard cardId hostId limit slots .refusal ≡ 0
       → (fits limit slots ≡ true) × (openCard cardId hostId limit slots .card ≡ freshCard cardId hostId limit)
@@ -225,8 +225,8 @@ module _ (cardId hostId : ℕ) (cardFits : cardId < frameSpace) (hostFits : host
         transactionsFor = record {
           lowestIs = refl;
           closedIs = λ i. mark-of-zero i ∙ sym (empty-full (0 + i));
-          placesAre = λ i l h. getD-replicate 32 (i % 32) free free (mod-lt i (lit< tt)) ∙ sym (empty-place i);
-          places = length-replicate 32 free;
+          entriesAre = λ i l h. getD-replicate 32 (i % 32) free free (mod-lt i (lit< tt)) ∙ sym (empty-entry i);
+          entries = length-replicate 32 free;
         };
       };
       hostOwn = refl;

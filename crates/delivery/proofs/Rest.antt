@@ -87,7 +87,7 @@ use Rattle.delivery.proofs.Book.Sound.{Sound}
 use Rattle.delivery.proofs.Book.Steps.{withAdded, added-seal, at-end}
 use Rattle.delivery.proofs.Book.Sums.{messages-of-frame}
 use Rattle.delivery.proofs.Book.AllFinished.{messagesIn-some}
-use Rattle.delivery.proofs.Host.HostStep.{TransactionsFor, fullAt, low, place, full-beyond}
+use Rattle.delivery.proofs.Host.HostStep.{TransactionsFor, fullAt, low, entry, full-beyond}
 use Rattle.delivery.proofs.Host.HostArrive.{HostFor}
 use Rattle.delivery.proofs.Card.CardFor.{framed, map-known}
 
@@ -264,11 +264,11 @@ module _ (cardId hostId : ℕ) where
         stop (yes h) = leading-stops (fullAt ds es) n h
         stop (no m) = full-beyond ds es (low ds es) (beyond (low ds es) (omega arith))
 
-    place-same : (i : ℕ) → place ds′ es i ≡ place ds es i
-    unfolding place
-    place-same i = go (decLt i n)
+    entry-same : (i : ℕ) → entry ds′ es i ≡ entry ds es i
+    unfolding entry
+    entry-same i = go (decLt i n)
       where
-        go : Dec (i < n) → place ds′ es i ≡ place ds es i
+        go : Dec (i < n) → entry ds′ es i ≡ entry ds es i
         go (yes h) = rw (List·getD-append ds (new ∷ []) noTransaction i h) refl
         go (no m) = rw (full-same i, beyond i (omega arith)) refl
 
@@ -277,8 +277,8 @@ module _ (cardId hostId : ℕ) where
       lowestIs = rw low-same (r .lowestIs);
       closedIs = λ i.
           r .closedIs i ∙ sym (full-same (low ds es + i)) ∙ ap (λ (k : ℕ). fullAt ds′ es (k + i)) (sym low-same);
-      placesAre = λ i a u. r .placesAre i (rw low-same at a) (rw low-same at u) ∙ sym (place-same i);
-      places = r .places;
+      entriesAre = λ i a u. r .entriesAre i (rw low-same at a) (rw low-same at u) ∙ sym (entry-same i);
+      entries = r .entries;
     }
 
     none-of : (xs : List MessageRecord) (i : ℕ) → count i xs ≡ 0 → ofTransaction i xs ≡ []

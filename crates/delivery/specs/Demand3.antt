@@ -186,7 +186,7 @@ seenAs (Again n) = expectAgain (n .0)
 seenAs NoMessages = expectNoEffect
 seenAs (Refused r) = expectNoEffect
 
--- The answer that the book expects, with the frame's number in the place of its count.
+-- The answer that the book expects, with the frame's number instead of its count.
 unfoldable pub numberedAs : Expected → Expected
 numberedAs (expectAccepted c sums) = expectAccepted (c % frameSpace) sums
 numberedAs (expectAgain c) = expectAgain (c % frameSpace)

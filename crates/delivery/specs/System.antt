@@ -58,17 +58,17 @@ pub record Implementation : Type 0 where
   pub hostEnd : HostEnd
 
 -- A step's own answer as a result. Showing and choosing leave the card as it is, and only adding writes into the slots.
-abbrev pub stepped : Stepped → List ℕ → CardResult
-stepped s slots = record { refusal = s .refusal; card = s .card; slots = slots; part = [] }
+abbrev pub steppedResult : Stepped → List ℕ → CardResult
+steppedResult s slots = record { refusal = s .refusal; card = s .card; slots = slots; part = [] }
 
-abbrev pub openedTrans : TransOpened → List ℕ → CardResult
-openedTrans s slots = record { refusal = s .refusal; card = s .card; slots = slots; part = [] }
+abbrev pub openedResult : TransOpened → List ℕ → CardResult
+openedResult s slots = record { refusal = s .refusal; card = s .card; slots = slots; part = [] }
 
-abbrev pub sealedFrame : Sealed → List ℕ → CardResult
-sealedFrame s slots = record { refusal = s .refusal; card = s .card; slots = slots; part = [] }
+abbrev pub sealedResult : Sealed → List ℕ → CardResult
+sealedResult s slots = record { refusal = s .refusal; card = s .card; slots = slots; part = [] }
 
-abbrev pub added : Added → CardResult
-added a = stepped (a .step) (a .slots)
+abbrev pub addedResult : Added → CardResult
+addedResult a = steppedResult (a .step) (a .slots)
 
 abbrev pub handedOver : ℕ → Card → List ℕ → List ℕ → CardResult
 handedOver refusal c slots part = record { refusal = refusal; card = c; slots = slots; part = part }
@@ -76,11 +76,11 @@ handedOver refusal c slots part = record { refusal = refusal; card = c; slots = 
 -- The ends that the rules describe: those that the code promises to be.
 abbrev pub specifiedCard : CardEnd
 specifiedCard = record {
-  cardOpening = λ own peer limit slots. stepped (openCard own peer limit slots) slots;
-  opening = λ c slots count address value. openedTrans (openTransaction c count address value) slots;
-  adding = λ c slots t at bytes. added (addMessage c slots t at bytes);
-  sealing = λ c slots. sealedFrame (sealFrame c slots) slots;
-  reading = λ c slots f. stepped (readAcks c f) slots;
+  cardOpening = λ own peer limit slots. steppedResult (openCard own peer limit slots) slots;
+  opening = λ c slots count address value. openedResult (openTransaction c count address value) slots;
+  adding = λ c slots t at bytes. addedResult (addMessage c slots t at bytes);
+  sealing = λ c slots. sealedResult (sealFrame c slots) slots;
+  reading = λ c slots f. steppedResult (readAcks c f) slots;
   showing = λ c slots n. handedOver (showRefusal c slots n) c slots (showFrame c slots n);
   choosing = λ c slots ack. handedOver (chooseRefusal c slots ack) c slots (chooseNext c slots ack);
 }
@@ -240,11 +240,11 @@ step e w (calls x) = cardStep (e .cardEnd) w x
 step e w (receives k) = hostStep (e .hostEnd) w k
 
 -- The system after a list, and what the list shows.
-pub record Run : Type 0 where
+pub record RunResult : Type 0 where
   pub system : System
   pub observations : List Observation
 
-unfoldable pub run : Implementation → System → List Event → Run
+unfoldable pub run : Implementation → System → List Event → RunResult
 run e w [] = record { system = w; observations = [] }
 run e w (x ∷ xs) =
     let s = step e w x in

@@ -109,7 +109,7 @@ invents f g k h s m =
 
 -- ---- hosts with one fault
 
--- The last place of the transaction window is refused.
+-- The last of the transaction window's 32 numbers is refused.
 unfoldable pub windowShort : Receiving
 windowShort h f m =
     cond (ltb (distance transSpace (h .lowest .0) (field f 10 4)) 31) (receiveOf h f m) (unchanged h m (refused 7 0))
@@ -219,14 +219,14 @@ addsNothing =
 -- ---- the older host
 
 -- Frame numbers as they stand, not by their distance on the ring.
-unfoldable pub behind : ℕ → ℕ → Bool
-behind num next = ltb num next
+unfoldable pub plainlyBehind : ℕ → ℕ → Bool
+plainlyBehind num next = ltb num next
 
--- As the rules say (`byNumber`), but for the test whether a frame is behind.
+-- As the rules say (`byNumber`), but for the test whether a frame is plainlyBehind.
 unfoldable pub numberedPlainly : Pair → List ℕ → ℕ → List Message → Received
 numberedPlainly p memory num ms =
     let d = distance frameSpace (p .next .0) num in
-    cond (behind num (p .next .0)) (unchanged p memory (Again (record { 0 = num })))
+    cond (plainlyBehind num (p .next .0)) (unchanged p memory (Again (record { 0 = num })))
     (cond (leb 64 d) (unchanged p memory (refused 6 0))
     (cond (mark (p .marks) d) (unchanged p memory (Again (record { 0 = num })))
     (concluded p memory num (takeAll (tallyOf p memory) 0 ms))))

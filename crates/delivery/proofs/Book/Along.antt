@@ -1,4 +1,4 @@
--- Two lists of one length whose elements stand in a relation, place by place; and the last of a list.
+-- Two lists of one length whose elements stand in a relation, one by one; and the last of a list.
 -- Assumes nothing.
 use Prim.Native.Nat.{ℕ, zero, suc}
 use mathlib.Core.Path.{_≡_, refl}
@@ -21,7 +21,7 @@ module _ {A B : Type 0} (R : A → B → Type 0) where
   along-more (u ∷ us) [] x y a k = absurd a
   along-more (u ∷ us) (v ∷ vs) x y a k = (a .0, along-more us vs x y (a .1) k)
 
-  -- What stands at place k, if anything does; d is read past the end.
+  -- What stands at index k, if anything does; d is read past the end.
   abbrev pub Found : A → List A → List B → ℕ → Type 0
   Found d xs ys k =
       ((getElem? ys k ≡ none) × (getD xs k d ≡ d))
@@ -38,7 +38,7 @@ module _ {A B : Type 0} (R : A → B → Type 0) where
       go (inl p) = inl p
       go (inr p) = inr (p .0, p .1, List·Memᴰ·tail (p .2), p .3)
 
--- a relation that follows at every place
+-- a relation that follows at every index
 pub along-alike : {A B : Type 0} (R S : A → B → Type 0) (xs : List A) (ys : List B)
     → ((y : B) → List·Memᴰ y ys → (x : A) → R x y → S x y) → Along R xs ys → Along S xs ys
 along-alike R S [] [] h a = tt

@@ -41,19 +41,19 @@ times-more c (y ∷ ys) r =
     ∙ sym (add-assoc (cond (expects c y) 1 0) (timesExpected c ys) (cond (expects c r) 1 0))
 
 -- where the answers are those that the book expects, as often as that
-abbrev first : Expected → Bool
-first (expectAccepted x sums) = true
-first (expectAgain x) = false
-first expectNoEffect = false
+abbrev isFirst : Expected → Bool
+isFirst (expectAccepted x sums) = true
+isFirst (expectAgain x) = false
+isFirst expectNoEffect = false
 
-first-seen : (a : Answer) → first (seenAs a) ≡ saysAccepted a
+first-seen : (a : Answer) → isFirst (seenAs a) ≡ saysAccepted a
 unfolding seenAs saysAccepted
 first-seen (Accepted n sums) = refl
 first-seen (Again n) = refl
 first-seen NoMessages = refl
 first-seen (Refused r) = refl
 
-first-expects : (c : ℕ) (r : Expected) → (first (numberedAs r) && copyOf c r) ≡ expects c r
+first-expects : (c : ℕ) (r : Expected) → (isFirst (numberedAs r) && copyOf c r) ≡ expects c r
 unfolding numberedAs copyOf expects
 first-expects c (expectAccepted x sums) = refl
 first-expects c (expectAgain x) = refl
@@ -69,24 +69,24 @@ times-seen c (a ∷ xs) (r ∷ rs) q =
     let one : seenAs a ≡ numberedAs r = cc in
     let later : map seenAs xs ≡ map numberedAs rs = cc in
     let here : (saysAccepted a && copyOf c r) ≡ expects c r =
-    ap (λ (x : Bool). x && copyOf c r) (sym (first-seen a) ∙ ap first one) ∙ first-expects c r in
+    ap (λ (x : Bool). x && copyOf c r) (sym (first-seen a) ∙ ap isFirst one) ∙ first-expects c r in
     rw (here, times-seen c xs rs later)
 
--- what an answer adds to a sum
-abbrev pub adds : (Sums → ℕ) → Answer → ℕ
-adds f (Accepted n sums) = f sums
-adds f (Again n) = 0
-adds f NoMessages = 0
-adds f (Refused r) = 0
+-- what an answer summand to a sum
+abbrev pub summand : (Sums → ℕ) → Answer → ℕ
+summand f (Accepted n sums) = f sums
+summand f (Again n) = 0
+summand f NoMessages = 0
+summand f (Refused r) = 0
 
-pub sum-more : (f : Sums → ℕ) (xs : List Answer) (a : Answer) → sumOver f (xs ++ (a ∷ [])) ≡ sumOver f xs + adds f a
+pub sum-more : (f : Sums → ℕ) (xs : List Answer) (a : Answer) → sumOver f (xs ++ (a ∷ [])) ≡ sumOver f xs + summand f a
 unfolding sumOver
 sum-more f [] (Accepted n sums) = add-zero (f sums) ∙ sym (zero-add (f sums))
 sum-more f [] (Again n) = refl
 sum-more f [] NoMessages = refl
 sum-more f [] (Refused r) = refl
 sum-more f (Accepted n sums ∷ zs) a =
-    ap (λ (t : ℕ). f sums + t) (sum-more f zs a) ∙ sym (add-assoc (f sums) (sumOver f zs) (adds f a))
+    ap (λ (t : ℕ). f sums + t) (sum-more f zs a) ∙ sym (add-assoc (f sums) (sumOver f zs) (summand f a))
 sum-more f (Again n ∷ zs) a = sum-more f zs a
 sum-more f (NoMessages ∷ zs) a = sum-more f zs a
 sum-more f (Refused r ∷ zs) a = sum-more f zs a

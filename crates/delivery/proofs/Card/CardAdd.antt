@@ -99,11 +99,11 @@ module _ (c : Card) (slots : List ℕ) (b : Book) (r : CardFor c slots b) (s : S
   pub t-is : i % transSpace ≡ t
   t-is = meant .1
 
-  place-is : t % 32 ≡ i % 32
-  place-is = let z : i % transSpace % 32 ≡ i % 32 = omega arith in rw t-is at z
+  entry-is : t % 32 ≡ i % 32
+  entry-is = let z : i % transSpace % 32 ≡ i % 32 = omega arith in rw t-is at z
 
   told-is : told ≡ sendingAt (c .sendings) i
-  told-is = ap (λ (n : ℕ). getD (c .sendings .table) n noSending) place-is
+  told-is = ap (λ (n : ℕ). getD (c .sendings .table) n noSending) entry-is
 
   terms-for : TermsFor told b i
   terms-for = rw told-is (r .termsAre i (omega arith) i-open)
@@ -189,7 +189,7 @@ module _ (c : Card) (slots : List ℕ) (b : Book) (r : CardFor c slots b) (s : S
       here : sendingAt (added-card .sendings) i ≡ oneMore told (c .window .next .0)
       here =
           ap (λ (l : List Sending). getD l (i % 32) noSending) sendings-are
-          ∙ read-set (c .sendings .table) (t % 32) (i % 32) (oneMore told (c .window .next .0)) noSending place-is
+          ∙ read-set (c .sendings .table) (t % 32) (i % 32) (oneMore told (c .window .next .0)) noSending entry-is
           (rw (r .termsLong) (mod-lt i (lit< tt)))
 
       not-yet : (j : ℕ) → j ≤ length (b .frames) → inFirst (withAdded b e) i j < inAll (withAdded b e) i
@@ -226,7 +226,7 @@ module _ (c : Card) (slots : List ℕ) (b : Book) (r : CardFor c slots b) (s : S
       here =
           ap (λ (l : List Sending). getD l (k % 32) noSending) sendings-are
           ∙ read-other (c .sendings .table) (t % 32) (i % 32) (k % 32)
-          (oneMore told (c .window .next .0)) noSending place-is
+          (oneMore told (c .window .next .0)) noSending entry-is
           (slots-differ (lowUnfinished b) k i l (omega (arith, s .transFit)) (omega arith)
           (omega (arith, s .transFit, i-open)) n)
 

@@ -294,8 +294,8 @@ module _ (c : Card) (slots : List ℕ) (b : Book) (r : CardFor c slots b) (s : S
     unfolding enterOpening
     wired-same es h = map-known (b .transactions) new es h
 
-    place-now : c .sendings .next .0 % 32 ≡ total % 32
-    place-now = rw (r .transNextIs) (omega arith)
+    entry-now : c .sendings .next .0 % 32 ≡ total % 32
+    entry-now = rw (r .transNextIs) (omega arith)
 
     old-terms : (i : ℕ) → lowUnfinished b ≤ i → i < total → TermsFor (sendingAt (opened-card .sendings) i) b′ i
     unfolding opening enterOpening
@@ -307,7 +307,7 @@ module _ (c : Card) (slots : List ℕ) (b : Book) (r : CardFor c slots b) (s : S
         here : sendingAt (opened-card .sendings) i ≡ sendingAt (c .sendings) i
         here =
             read-other (c .sendings .table) (c .sendings .next .0 % 32) (total % 32)
-            (i % 32) newSending noSending place-now
+            (i % 32) newSending noSending entry-now
             (slots-differ (lowUnfinished b) i total l (omega (arith, open-room)) (omega arith) open-room
             (λ q. omega arith))
 
@@ -324,7 +324,7 @@ module _ (c : Card) (slots : List ℕ) (b : Book) (r : CardFor c slots b) (s : S
       where
         here : sendingAt (opened-card .sendings) total ≡ newSending
         here =
-            read-set (c .sendings .table) (c .sendings .next .0 % 32) (total % 32) newSending noSending place-now
+            read-set (c .sendings .table) (c .sendings .next .0 % 32) (total % 32) newSending noSending entry-now
             (rw (r .termsLong) (mod-lt total (lit< tt)))
 
     pub card-opened : CardFor opened-card slots b′

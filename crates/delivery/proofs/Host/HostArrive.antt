@@ -1,4 +1,4 @@
--- The host on a copy of a sealed frame: again if a copy has reached it before, accepted if not; and its state stays the
+-- The host on a copy of a sealed frame: again if a copy has reached it sealedBefore, accepted if not; and its state stays the
 -- book's. Assumes nothing.
 use Prim.Native.Nat.{ℕ, zero, suc, _+_, _-_, _%_, _≤_, _<_}
 use native.Mathlib.Nat.{mod-add-mod, zero-add, not-suc-le-zero}
@@ -72,8 +72,8 @@ use Rattle.delivery.proofs.Book.Sound.{
   released-le-lowest,
 }
 use Rattle.delivery.proofs.Book.Sums.{
-  before,
-  behind,
+  sealedBefore,
+  sealedAfter,
   messages-before,
   messages-after,
   frame-known,
@@ -247,10 +247,10 @@ module _ (h : Pair) (b : Book) (r : HostFor h b) (s : Sound b) (c : ℕ) (kept :
   es = frameAt b c .messages
 
   abbrev pre : List MessageRecord
-  pre = before b s c inside isNew
+  pre = sealedBefore b s c inside isNew
 
   abbrev post : List MessageRecord
-  post = behind b s c inside isNew
+  post = sealedAfter b s c inside isNew
 
   abbrev ms : List Message
   ms = map (wired (b .transactions)) es

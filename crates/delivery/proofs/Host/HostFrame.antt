@@ -27,7 +27,7 @@ use Rattle.delivery.specs.Book.{
 }
 use Rattle.delivery.proofs.Book.Counts.{count, count-append, full-mono}
 use Rattle.delivery.proofs.Book.Writes.{taken, ofTransaction-same, ofTransaction-other}
-use Rattle.delivery.proofs.Book.Arrive.{takenAll, AllTurns, Awaited}
+use Rattle.delivery.proofs.Book.Arrive.{takenAll, AllTurns, StillAwaited}
 use Rattle.delivery.proofs.Book.Sums.{completedAll}
 use Rattle.delivery.proofs.Host.HostStep.{
   TransactionsFor,
@@ -129,7 +129,7 @@ module _ (ds : List Transaction) (pre : List MessageRecord) (e : MessageRecord) 
   abbrev was : Open
   was = inTable l ds (pre ++ post) r e fit isKnown notFull
 
-  pub record Taken : Type 0 where
+  pub record MessageTaken : Type 0 where
     pub next : Transactions
     pub nextFor : TransactionsFor next ds (pre ++ (e ∷ post))
     pub notRefused : v .refusal ≡ 0
@@ -154,11 +154,11 @@ module _ (ds : List Transaction) (pre : List MessageRecord) (e : MessageRecord) 
   unfolding takeIn tallied
   with-verdict x done f q = rw (q, f, effect-is ds e (t .memory) done inside)
 
-  pub taken-in : Taken
+  pub taken-in : MessageTaken
   unfolding closing holding
   taken-in = go (fullAt ds (pre ++ (e ∷ post)) (e .trans)) refl
     where
-      go : (b : Bool) → fullAt ds (pre ++ (e ∷ post)) (e .trans) ≡ b → Taken
+      go : (b : Bool) → fullAt ds (pre ++ (e ∷ post)) (e .trans) ≡ b → MessageTaken
       go true f =
           let x = closing (l .lowest) (l .closed) (gap l ds (pre ++ post) r e fit isKnown notFull) in
           let is : v ≡ x = v-is ∙ rw f in
@@ -200,7 +200,7 @@ module _ (ds : List Transaction) (pre : List MessageRecord) (e : MessageRecord) 
       )
 
   abbrev step : Type 0
-  step = Taken ds pre e post t r fit isKnown notFull none-behind (inside .0)
+  step = MessageTaken ds pre e post t r fit isKnown notFull none-behind (inside .0)
 
   step-done : step
   step-done = taken-in ds pre e post t r fit isKnown notFull none-behind (inside .0)
@@ -252,7 +252,7 @@ module _ (ds : List Transaction) (pre : List MessageRecord) (e : MessageRecord) 
     }
 
 pub frame-taken : (ds : List Transaction) (pre es post : List MessageRecord) (place : ℕ) (t : Tally)
-    → TransactionsFor (t .transactions) ds (pre ++ post) → AllTurns (Awaited ds) pre es post
+    → TransactionsFor (t .transactions) ds (pre ++ post) → AllTurns (StillAwaited ds) pre es post
     → Inside ds (length (t .memory)) es
     → length ds ≤ low ds (pre ++ post) + 32 → ((i : ℕ) → length ds ≤ i → count i (pre ++ (es ++ post)) ≡ 0)
     → FrameTaken ds pre es post place t

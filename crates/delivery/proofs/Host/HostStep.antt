@@ -44,16 +44,16 @@ low ds es = leading (fullAt ds es) (length ds)
 abbrev pub underway : Transaction → ℕ → Open
 underway d n = record { count = d .count; address = d .completionAddress; value = d .completionValue; received = n }
 
--- What the place of transaction i holds.
-unfoldable pub place : List Transaction → List MessageRecord → ℕ → Open
-place ds es i =
+-- What the entry of transaction i holds.
+unfoldable pub entry : List Transaction → List MessageRecord → ℕ → Open
+entry ds es i =
     cond (fullAt ds es i) free (cond (eqb (count i es) 0) free (underway (getD ds i noTransaction) (count i es)))
 
 pub record TransactionsFor (l : Transactions) (ds : List Transaction) (es : List MessageRecord) : Type 0 where
   pub lowestIs : l .lowest ≡ low ds es % transSpace
   pub closedIs : (i : ℕ) → mark (l .closed) i ≡ fullAt ds es (low ds es + i)
-  pub placesAre : (i : ℕ) → low ds es ≤ i → i < low ds es + 32 → getD (l .table) (i % 32) free ≡ place ds es i
-  pub places : length (l .table) ≡ 32
+  pub entriesAre : (i : ℕ) → low ds es ≤ i → i < low ds es + 32 → getD (l .table) (i % 32) free ≡ entry ds es i
+  pub entries : length (l .table) ≡ 32
 
 -- A message of the book as the wire carries it.
 abbrev pub wired : List Transaction → MessageRecord → Message
@@ -100,13 +100,13 @@ module _ (l : Transactions) (ds : List Transaction) (es : List MessageRecord) (r
       let z : low ds es + (e .trans - low ds es) ≡ e .trans = omega (arith, at-least) in
       ap (mark (l .closed)) away ∙ r .closedIs (e .trans - low ds es) ∙ ap (fullAt ds es) z ∙ notFull
 
-  held : inTable ≡ place ds es (e .trans)
+  held : inTable ≡ entry ds es (e .trans)
   held =
       ap (λ (n : ℕ). getD (l .table) n free) (mod32 (e .trans))
-      ∙ r .placesAre (e .trans) at-least (omega (arith, at-least))
+      ∙ r .entriesAre (e .trans) at-least (omega (arith, at-least))
 
   received-is : inTable .received ≡ count (e .trans) es
-  unfolding place
+  unfolding entry
   received-is = ap (λ (o : Open). o .received) held ∙ rw notFull (go (eqb (count (e .trans) es) 0) refl)
     where
       go : (b : Bool) → eqb (count (e .trans) es) 0 ≡ b
@@ -115,7 +115,7 @@ module _ (l : Transactions) (ds : List Transaction) (es : List MessageRecord) (r
       go false q = refl
 
   agrees-so : agrees inTable (headOf (wired ds e)) ≡ true
-  unfolding agrees place headOf
+  unfolding agrees entry headOf
   agrees-so = rw (held, notFull) (go (eqb (count (e .trans) es) 0) refl)
     where
       go : (b : Bool) → eqb (count (e .trans) es) 0 ≡ b
@@ -151,7 +151,7 @@ module _ (l : Transactions) (ds : List Transaction) (es : List MessageRecord) (r
     unfolding verdict verdictOf headOf
     verdict-is = rw (terms-fine, addresses-fine)
 
--- ---- places
+-- ---- entries
 
 pub read-set : {A : Type 0} (xs : List A) (k j : ℕ) (a d : A) → k ≡ j → j < length xs → getD (set xs k a) j d ≡ a
 read-set xs k j a d q h = rw q (getD-set-same xs j a d h)
@@ -160,7 +160,7 @@ pub read-other : {A : Type 0} (xs : List A) (k k′ j : ℕ) (a d : A) → k ≡
     ≡ getD xs j d
 read-other xs k k′ j a d q n = rw q (getD-set-other xs k′ j a d n)
 
--- two of 32 consecutive counts have different places
+-- two of 32 consecutive counts have different entries
 pub slots-differ : (a i t : ℕ) → a ≤ i → i < a + 32 → a ≤ t → t < a + 32 → t ≢ i → i % 32 ≢ t % 32
 slots-differ a i t h₁ h₂ h₃ h₄ n q = go (decLe i t)
   where
@@ -195,9 +195,9 @@ module _ (l : Transactions) (ds : List Transaction) (es es′ : List MessageReco
   unfolding allMessagesIn
   full-others i n = ap (λ (k : ℕ). leb (needed (getD ds i noTransaction .count)) k) (others i n)
 
-  place-others : (i : ℕ) → e .trans ≢ i → place ds es′ i ≡ place ds es i
-  unfolding place
-  place-others i n = rw (full-others i n, others i n)
+  entry-others : (i : ℕ) → e .trans ≢ i → entry ds es′ i ≡ entry ds es i
+  unfolding entry
+  entry-others i n = rw (full-others i n, others i n)
 
   pub fills-is : fills was (headOf (wired ds e)) ≡ fullAt ds es′ (e .trans)
   unfolding fills allMessagesIn headOf
@@ -221,23 +221,23 @@ module _ (l : Transactions) (ds : List Transaction) (es es′ : List MessageReco
     new : Open
     new = underway (getD ds (e .trans) noTransaction) (suc (was .received))
 
-    placeNow : place ds es′ (e .trans) ≡ new
-    unfolding place new
-    placeNow =
+    entryNow : entry ds es′ (e .trans) ≡ new
+    unfolding entry new
+    entryNow =
         rw (still, one, eqb·suc-zero (count (e .trans) es))
         (ap (λ (n : ℕ). underway (getD ds (e .trans) noTransaction) (suc n))
         (sym (received-is l ds es r e fit isKnown notFull)))
 
-    place-kept : (i : ℕ) → low ds es ≤ i → i < low ds es + 32 → Dec (e .trans ≡ i)
-        → getD (set (l .table) k new) (i % 32) free ≡ place ds es′ i
-    place-kept i a b (yes q) =
+    entry-kept : (i : ℕ) → low ds es ≤ i → i < low ds es + 32 → Dec (e .trans ≡ i)
+        → getD (set (l .table) k new) (i % 32) free ≡ entry ds es′ i
+    entry-kept i a b (yes q) =
         let z : k ≡ i % 32 = mod32 (e .trans) ∙ ap (λ (j : ℕ). j % 32) q in
-        let len : i % 32 < length (l .table) = rw (r .places) (mod-lt i (lit< tt)) in
-        read-set (l .table) k (i % 32) new free z len ∙ sym placeNow ∙ ap (place ds es′) q
-    place-kept i a b (no n) =
+        let len : i % 32 < length (l .table) = rw (r .entries) (mod-lt i (lit< tt)) in
+        read-set (l .table) k (i % 32) new free z len ∙ sym entryNow ∙ ap (entry ds es′) q
+    entry-kept i a b (no n) =
         read-other (l .table) k (e .trans % 32) (i % 32) new free (mod32 (e .trans))
         (slots-differ (low ds es) i (e .trans) a b bound (omega arith) n)
-        ∙ r .placesAre i a b ∙ sym (place-others i n)
+        ∙ r .entriesAre i a b ∙ sym (entry-others i n)
 
     pub for-holding : TransactionsFor
         (after l (wired ds e) (holding (l .lowest) (l .closed) was (headOf (wired ds e)))) ds es′
@@ -245,8 +245,8 @@ module _ (l : Transactions) (ds : List Transaction) (es es′ : List MessageReco
     for-holding = record {
       lowestIs = rw low-same (r .lowestIs);
       closedIs = λ i. rw (low-same, full-same (low ds es + i)) (r .closedIs i);
-      placesAre = λ i a b. place-kept i (rw low-same at a) (rw low-same at b) (ℕ-discrete (e .trans) i);
-      places = length-set (l .table) k new ∙ r .places;
+      entriesAre = λ i a b. entry-kept i (rw low-same at a) (rw low-same at b) (ℕ-discrete (e .trans) i);
+      entries = length-set (l .table) k new ∙ r .entries;
     }
 
   -- complete now: marked, and the window moved past it where it was the lowest
@@ -284,41 +284,41 @@ module _ (l : Transactions) (ds : List Transaction) (es es′ : List MessageReco
         window-moves (fullAt ds es′) (length ds) (low ds es) 32 marked (leading-le (fullAt ds es) (length ds)) fit
         below′ marked-is beyond′
 
-    place-full : (i : ℕ) → fullAt ds es′ i ≡ true → place ds es′ i ≡ free
-    unfolding place
-    place-full i h = rw h
+    entry-full : (i : ℕ) → fullAt ds es′ i ≡ true → entry ds es′ i ≡ free
+    unfolding entry
+    entry-full i h = rw h
 
-    place-beyond : (i : ℕ) → length ds ≤ i → place ds es′ i ≡ free
-    unfolding place
-    place-beyond i h = rw (beyond′ i h, others i (λ q. omega arith) ∙ beyond i h)
+    entry-beyond : (i : ℕ) → length ds ≤ i → entry ds es′ i ≡ free
+    unfolding entry
+    entry-beyond i h = rw (beyond′ i h, others i (λ q. omega arith) ∙ beyond i h)
 
-    -- a place of the old window, whoever reads it now
-    place-old : (i : ℕ) → low ds es ≤ i → i < low ds es + 32 → Dec (e .trans ≡ i)
-        → getD (set (l .table) k free) (i % 32) free ≡ place ds es′ i
-    place-old i a b (yes q) =
+    -- a entry of the old window, whoever reads it now
+    entry-old : (i : ℕ) → low ds es ≤ i → i < low ds es + 32 → Dec (e .trans ≡ i)
+        → getD (set (l .table) k free) (i % 32) free ≡ entry ds es′ i
+    entry-old i a b (yes q) =
         let z : k ≡ i % 32 = mod32 (e .trans) ∙ ap (λ (j : ℕ). j % 32) q in
-        let len : i % 32 < length (l .table) = rw (r .places) (mod-lt i (lit< tt)) in
+        let len : i % 32 < length (l .table) = rw (r .entries) (mod-lt i (lit< tt)) in
         read-set (l .table) k (i % 32) free free z len
-        ∙ sym (place-full i (subst (λ (t : ℕ). fullAt ds es′ t ≡ true) q now))
-    place-old i a b (no n) =
+        ∙ sym (entry-full i (subst (λ (t : ℕ). fullAt ds es′ t ≡ true) q now))
+    entry-old i a b (no n) =
         read-other (l .table) k (e .trans % 32) (i % 32) free free (mod32 (e .trans))
         (slots-differ (low ds es) i (e .trans) a b bound (omega arith) n)
-        ∙ r .placesAre i a b ∙ sym (place-others i n)
+        ∙ r .entriesAre i a b ∙ sym (entry-others i n)
 
-    -- a place of the window moved: one of the old window, or that of a transaction passed, which is free
-    place-new : (i : ℕ) → low ds es + run ≤ i → i < low ds es + run + 32 → Dec (i < low ds es + 32)
-        → getD (set (l .table) k free) (i % 32) free ≡ place ds es′ i
+    -- a entry of the window moved: one of the old window, or that of a transaction passed, which is free
+    entry-new : (i : ℕ) → low ds es + run ≤ i → i < low ds es + run + 32 → Dec (i < low ds es + 32)
+        → getD (set (l .table) k free) (i % 32) free ≡ entry ds es′ i
     unfolding run trailingOnes
-    place-new i a b (yes h) = place-old i (omega arith) h (ℕ-discrete (e .trans) i)
-    place-new i a b (no h) =
+    entry-new i a b (yes h) = entry-old i (omega arith) h (ℕ-discrete (e .trans) i)
+    entry-new i a b (no h) =
         let z : i % 32 ≡ (i - 32) % 32 = omega arith in
         let le32 : run ≤ 32 = leading-le (mark marked) 32 in
         let q : low ds es + (i - 32 - low ds es) ≡ i - 32 = omega arith in
         let f : fullAt ds es′ (i - 32) ≡ true =
         sym (ap (fullAt ds es′) q) ∙ sym (marked-is (i - 32 - low ds es))
         ∙ leading-holds (mark marked) 32 (i - 32 - low ds es) (omega arith) in
-        rw z (place-old (i - 32) (omega arith) (omega arith) (ℕ-discrete (e .trans) (i - 32)))
-        ∙ place-full (i - 32) f ∙ sym (place-beyond i (omega arith))
+        rw z (entry-old (i - 32) (omega arith) (omega arith) (ℕ-discrete (e .trans) (i - 32)))
+        ∙ entry-full (i - 32) f ∙ sym (entry-beyond i (omega arith))
 
     pub for-closing : TransactionsFor (after l (wired ds e) (closing (l .lowest) (l .closed) dist)) ds es′
     unfolding after closing advance marked run
@@ -329,6 +329,6 @@ module _ (l : Transactions) (ds : List Transaction) (es es′ : List MessageReco
       closedIs =
           window-marks (fullAt ds es′) (length ds) (low ds es) 32 marked (leading-le (fullAt ds es) (length ds)) fit
           below′ marked-is beyond′;
-      placesAre = λ i a b. place-new i (rw low-moves at a) (rw low-moves at b) (decLt i (low ds es + 32));
-      places = length-set (l .table) k free ∙ r .places;
+      entriesAre = λ i a b. entry-new i (rw low-moves at a) (rw low-moves at b) (decLt i (low ds es + 32));
+      entries = length-set (l .table) k free ∙ r .entries;
     }

@@ -105,8 +105,8 @@ use Rattle.delivery.proofs.Book.Counts.{
 }
 use Rattle.delivery.proofs.Book.Steps.{sound-ignoring, sound-arriving}
 use Rattle.delivery.proofs.Book.Sums.{
-  before,
-  behind,
+  sealedBefore,
+  sealedAfter,
   messages-of-frame,
   messages-before,
   messages-after,
@@ -129,7 +129,7 @@ use Rattle.delivery.proofs.Book.Answers.{
   match-more,
   expects,
   times-more,
-  adds,
+  summand,
   sum-more,
 }
 use Rattle.delivery.proofs.Rest.{TermsTyped, MessageTyped, Copied, AllCopied, Acknowledges, Rest, copies-alike}
@@ -139,17 +139,17 @@ use Rattle.delivery.proofs.Agree.{SystemFor}
 
 -- an answer to it: no acknowledgement is due, and it is neither accepted nor again
 pub record NoEffect (h : Pair) (a : Answer) : Type 0 where
-  pub kind : seenAs a ≡ expectNoEffect
+  pub seen : seenAs a ≡ expectNoEffect
   pub noAck : acksFor specifiedHost h a ≡ []
-  pub addsNothing : (g : Sums → ℕ) → adds g a ≡ 0
+  pub noSummand : (g : Sums → ℕ) → summand g a ≡ 0
 
 refusal-no-effect : (h : Pair) (r : ℕ) → NoEffect h (refused r 0)
 unfolding seenAs acksFor acknowledgementOf
-refusal-no-effect h r = record { kind = refl; noAck = refl; addsNothing = λ g. refl }
+refusal-no-effect h r = record { seen = refl; noAck = refl; noSummand = λ g. refl }
 
 none-no-effect : (h : Pair) → NoEffect h NoMessages
 unfolding seenAs acksFor acknowledgementOf
-none-no-effect h = record { kind = refl; noAck = refl; addsNothing = λ g. refl }
+none-no-effect h = record { seen = refl; noAck = refl; noSummand = λ g. refl }
 
 -- 10 bytes hold no message, whatever they are
 receive-short : (h : Pair) (g memory : List ℕ) → length g ≤ 10
@@ -181,7 +181,7 @@ receive-short h g memory l = go (ℕ-discrete (refusalOf (readFrame (addressed (
         let can = readable (addressed (h .own) (h .peer) g) g z in
         (NoMessages, none-no-effect h, received-none h g memory can (flag can))
 
--- ---- a frame accepted before, marked again
+-- ---- a frame accepted sealedBefore, marked again
 
 change-same : (ss : List FrameRecord) (c : ℕ) → getD ss c noFrame .accepted ≡ true → changeAt ss c markAccepted ≡ ss
 unfolding changeAt
@@ -243,7 +243,7 @@ module _ (cardId hostId : ℕ) (cardFits : cardId < frameSpace) (hostFits : host
             subst (λ (l : List (List ℕ)). Along (Acknowledges cardId hostId) l (b .acksDue))
             (sym (ap (λ (l : List (List ℕ)). w .acks ++ l) (n .noAck) ∙ append-nil (w .acks)))
             (f .rest .traffic .acksAre);
-        matching = match-more (w .answers) (b .expected) a expectNoEffect (f .rest .traffic .matching) (n .kind);
+        matching = match-more (w .answers) (b .expected) a expectNoEffect (f .rest .traffic .matching) (n .seen);
         once = λ c. times-more c (b .expected) expectNoEffect ∙ add-zero _ ∙ f .rest .traffic .once c;
       };
       sums = record {
@@ -261,7 +261,7 @@ module _ (cardId hostId : ℕ) (cardFits : cardId < frameSpace) (hostFits : host
     where
       same-sum : (g : Sums → ℕ) → sumOver g (w .answers ++ (a ∷ [])) ≡ sumOver g (w .answers)
       same-sum g =
-          sum-more g (w .answers) a ∙ ap (λ (t : ℕ). sumOver g (w .answers) + t) (n .addsNothing g) ∙ add-zero _
+          sum-more g (w .answers) a ∙ ap (λ (t : ℕ). sumOver g (w .answers) + t) (n .noSummand g) ∙ add-zero _
 
   -- ---- a copy of a sealed frame
 
@@ -422,10 +422,10 @@ module _ (cardId hostId : ℕ) (cardFits : cardId < frameSpace) (hostFits : host
     -- accepted
     module _ (isNew : frameAt b c .accepted ≡ false) where
       abbrev pre : List MessageRecord
-      pre = before b (f .sound) c inside isNew
+      pre = sealedBefore b (f .sound) c inside isNew
 
       abbrev post : List MessageRecord
-      post = behind b (f .sound) c inside isNew
+      post = sealedAfter b (f .sound) c inside isNew
 
       abbrev sums : Sums
       sums = record {

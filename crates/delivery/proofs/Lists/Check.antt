@@ -19,7 +19,7 @@ use Rattle.delivery.specs.Book.{
   emptyBook,
   bookOf,
 }
-use Rattle.delivery.specs.System.{Implementation, Event, Run, run, initial}
+use Rattle.delivery.specs.System.{Implementation, Event, RunResult, run, initial}
 use Rattle.delivery.specs.Demand3.{
   allTyped,
   notTooLate,
@@ -148,7 +148,7 @@ module _ (b : Book) where
 abbrev pub slots₀ : List ℕ
 slots₀ = replicate (64 * 64) 0
 
-abbrev pub runs : Implementation → List ℕ → List Event → Run
+abbrev pub runs : Implementation → List ℕ → List Event → RunResult
 runs e memory events = run e (initial e 2 1 64 slots₀ memory) events
 
 abbrev pub booked : Implementation → List ℕ → List Event → Book

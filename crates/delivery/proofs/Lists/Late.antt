@@ -59,7 +59,7 @@ use Rattle.delivery.specs.System.{
   reads,
   receives,
   System,
-  Run,
+  RunResult,
   byCard,
   byHost,
   step,
@@ -133,7 +133,7 @@ lateCopy n = opening (rounds n 0 (receives 0 ∷ []))
 lateAck : ℕ → List Event
 lateAck n = opening (rounds n 0 (reads 0 ∷ []))
 
-abbrev ran : List Event → Run
+abbrev ran : List Event → RunResult
 ran events = run specified (initial specified 2 1 64 slots₀ memory) events
 
 abbrev bookAfter : List Event → Book

@@ -1,8 +1,10 @@
--- A worked list that meets the premises of demand 3, and what demand 3 gives for it; and a list that the premises shut
--- out, where host and book do differ. Assumes nothing.
+-- Worked lists that meet the premises of demand 3, with every sentence of the demand read from the theorem; and a list
+-- that the premises shut out, where host and book do differ. What stands in the book is found by running the list; what
+-- the host answered, what it left in memory and what the card released follows from the theorem alone.
+-- Assumes nothing.
 use Prim.Native.Nat.{ℕ, zero, suc, _+_, _≤_, _<_}
 use native.Mathlib.Omega.{arith}
-use mathlib.Core.Path.{_≡_, refl, ap}
+use mathlib.Core.Path.{_≡_, refl, ap, _∙_}
 use mathlib.Core.Bool.{true}
 use mathlib.Core.List.{List, [], _∷_, _++_, map, List·Memᴰ·head}
 use lib.Dec.{lit≤, lit<}
@@ -10,14 +12,21 @@ use lib.ListN.{length, replicate, getD}
 use Rattle.host.specs.declared.Answer.{Answer}
 use Rattle.send_window.specs.Window.{unreleased}
 use Rattle.delivery.specs.Book.{
+  Expected,
   expectAccepted,
   expectAgain,
   expectNoEffect,
   Book,
+  frameAt,
+  releasedCount,
+  acceptedMessages,
   addedMessages,
   ofTransaction,
   finished,
   bookMemory,
+  serialMemory,
+  dataBytes,
+  completeCount,
 }
 use Rattle.delivery.specs.System.{
   specified,
@@ -35,15 +44,30 @@ use Rattle.delivery.specs.Demand3.{
   WritesAllowed,
   outcomeOf,
   seenAs,
+  numberedAs,
   timesAccepted,
-  Guarantees,
   messagesSum,
   bytesSum,
   completeSum,
+  neededBy,
+  bytesBy,
+  Guarantees,
+  WhenAllFinished,
 }
 use Rattle.delivery.proofs.Demand.{demand3}
 use Rattle.delivery.proofs.Lists.Check.{runs, booked, passes, applied}
 use Rattle.delivery.proofs.Lists.Computing.{computing}
+
+abbrev answersTo : List ℕ → List Event → List Answer
+answersTo memory events = runs specified memory events .system .answers
+
+abbrev memoryAfter : List ℕ → List Event → List ℕ
+memoryAfter memory events = runs specified memory events .system .memory
+
+abbrev unreleasedAfter : List ℕ → List Event → ℕ
+unreleasedAfter memory events = unreleased (runs specified memory events .system .card .window)
+
+-- ---- a list at whose end all is finished
 
 events : List Event
 events =
@@ -67,44 +91,71 @@ events =
 abbrev memory : List ℕ
 memory = replicate 20 0
 
+abbrev book : Book
+book = booked specified memory events
+
 met : passes specified memory events ≡ true
 unfolding computing events
 met = refl
 
-holds : Guarantees (outcomeOf (runs specified memory events .system)) (booked specified memory events)
+holds : Guarantees (outcomeOf (runs specified memory events .system)) book
 holds = applied specified demand3 memory events met
 
-all-finished : (i : ℕ) → i < 2 → finished (booked specified memory events) i ≡ true
-unfolding computing events
-all-finished zero h = refl
-all-finished (suc zero) h = refl
-all-finished (suc (suc i)) h = absurd (omega arith)
-
-abbrev answers : List Answer
-answers = runs specified memory events .system .answers
-
--- What the theorem says of this list: the answers, frame by frame; three messages, five bytes, two transactions; and
--- memory as if the two had run one after the other.
-said : map seenAs answers
+-- What the book expects of this list, and what it says of its two transactions: three messages, five bytes, and memory
+-- as if the two had run one after the other.
+expected-is : map numberedAs (book .expected)
     ≡ expectAccepted 1 (record { messages = 1; bytes = 1; completed = 0 })
     ∷ expectAccepted 0 (record { messages = 1; bytes = 2; completed = 1 })
     ∷ expectAgain 0
     ∷ expectAccepted 2 (record { messages = 1; bytes = 2; completed = 1 })
     ∷ expectAgain 0 ∷ expectNoEffect ∷ expectNoEffect ∷ []
 unfolding computing events
-said = holds .answersMatch
+expected-is = refl
 
-whole : (messagesSum answers ≡ 3) × (bytesSum answers ≡ 5) × (completeSum answers ≡ 2)
-    × (runs specified memory events .system .memory ≡ 1 ∷ 5 ∷ 6 ∷ replicate 13 0 ++ 9 ∷ 0 ∷ 0 ∷ 0 ∷ [])
+record WholeBook : Type 0 where
+  opened : length (book .transactions) ≡ 2
+  messages : neededBy (book .transactions) ≡ 3
+  bytes : bytesBy 0 (book .transactions) (addedMessages book) ≡ 5
+  inTurn : serialMemory book ≡ 1 ∷ 5 ∷ 6 ∷ replicate 13 0 ++ 9 ∷ 0 ∷ 0 ∷ 0 ∷ []
+
+whole-book : WholeBook
 unfolding computing events
-whole =
-    let s = holds .whenAllFinished all-finished in
-    (s .messagesWhole, s .bytesWhole, s .completeWhole, s .memoryInTurn)
+whole-book = record { opened = refl; messages = refl; bytes = refl; inTurn = refl }
 
--- ---- a list that breaks off, with every sentence of the demand read from the theorem
+all-finished : (i : ℕ) → i < length (book .transactions) → finished book i ≡ true
+unfolding computing events
+all-finished zero h = refl
+all-finished (suc zero) h = refl
+all-finished (suc (suc i)) h = absurd (omega arith)
 
--- Added, sealed, accepted, acknowledged and released are all different here, so that a sum over the wrong ones would
--- show.
+-- What the theorem then says of the host: its answers one by one, their sums, and memory.
+answered : map seenAs (answersTo memory events)
+    ≡ expectAccepted 1 (record { messages = 1; bytes = 1; completed = 0 })
+    ∷ expectAccepted 0 (record { messages = 1; bytes = 2; completed = 1 })
+    ∷ expectAgain 0
+    ∷ expectAccepted 2 (record { messages = 1; bytes = 2; completed = 1 })
+    ∷ expectAgain 0 ∷ expectNoEffect ∷ expectNoEffect ∷ []
+answered = holds .answersMatch ∙ expected-is
+
+whole : WhenAllFinished (outcomeOf (runs specified memory events .system)) book
+whole = holds .whenAllFinished all-finished
+
+messages-whole : messagesSum (answersTo memory events) ≡ 3
+messages-whole = whole .messagesWhole ∙ whole-book .messages
+
+bytes-whole : bytesSum (answersTo memory events) ≡ 5
+bytes-whole = whole .bytesWhole ∙ whole-book .bytes
+
+complete-whole : completeSum (answersTo memory events) ≡ 2
+complete-whole = whole .completeWhole ∙ whole-book .opened
+
+memory-whole : memoryAfter memory events ≡ 1 ∷ 5 ∷ 6 ∷ replicate 13 0 ++ 9 ∷ 0 ∷ 0 ∷ 0 ∷ []
+memory-whole = whole .memoryInTurn ∙ whole-book .inTurn
+
+-- ---- a list that breaks off
+
+-- Added, sealed, accepted, acknowledged and released are all different here, so that a statement about the wrong ones
+-- would show.
 partway : List Event
 partway =
     -- frame 0 holds a message each of transactions 0 and 1, frames 1, 2, 3 one of 1, 0, 2; one more of 1 is not sealed
@@ -121,47 +172,69 @@ memory₂ = replicate 32 0
 abbrev book₂ : Book
 book₂ = booked specified memory₂ partway
 
-abbrev answers₂ : List Answer
-answers₂ = runs specified memory₂ partway .system .answers
-
 holds₂ : Guarantees (outcomeOf (runs specified memory₂ partway .system)) book₂
 unfolding computing partway
 holds₂ = applied specified demand3 memory₂ partway refl
 
--- frame 2 accepted, then frame 0, then frame 0 again
-answered₂ : map seenAs answers₂
-    ≡ expectAccepted 2 (record { messages = 1; bytes = 1; completed = 0 })
-    ∷ expectAccepted 0 (record { messages = 2; bytes = 3; completed = 1 })
-    ∷ expectAgain 0 ∷ []
-unfolding computing partway
-answered₂ = holds₂ .answersMatch
+-- What stands in the book: four sealed frames, of which the first is released, the first and the third are accepted; of
+-- six messages with seven bytes three with four are accepted, and one of three transactions is complete. Memory has the
+-- data of both transactions in the accepted frames, and the completion of the first.
+record PartBook : Type 0 where
+  opened : length (book₂ .transactions) ≡ 3
+  sealed : length (book₂ .frames) ≡ 4
+  released : releasedCount book₂ ≡ 1
+  first : frameAt book₂ 0 .accepted ≡ true
+  third : frameAt book₂ 2 .accepted ≡ true
+  messages : length (acceptedMessages book₂) ≡ 3
+  bytes : dataBytes (acceptedMessages book₂) ≡ 4
+  complete : completeCount 0 (book₂ .transactions) (acceptedMessages book₂) ≡ 1
+  memory : bookMemory book₂ ≡ 0 ∷ 0 ∷ 9 ∷ 0 ∷ 3 ∷ 4 ∷ 5 ∷ replicate 13 0 ++ 7 ∷ replicate 11 0
 
-once₂ : (timesAccepted 0 answers₂ (book₂ .expected) ≡ 1) × (timesAccepted 2 answers₂ (book₂ .expected) ≡ 1)
+part-book : PartBook
 unfolding computing partway
-once₂ = (holds₂ .acceptedOnce 0 refl, holds₂ .acceptedOnce 2 refl)
+part-book = record {
+  opened = refl;
+  sealed = refl;
+  released = refl;
+  first = refl;
+  third = refl;
+  messages = refl;
+  bytes = refl;
+  complete = refl;
+  memory = refl;
+}
 
--- of four sealed frames three are not released; the one released was accepted once
-released₂ : (4 ≡ 1 + unreleased (runs specified memory₂ partway .system .card .window))
-    × (timesAccepted 0 answers₂ (book₂ .expected) ≡ 1)
-unfolding computing partway
-released₂ = (holds₂ .releasedAgrees, holds₂ .releasedAccepted 0 (lit< tt))
+-- Of the answers to the copies of frame 0, which came twice, one is "accepted", and of those to frame 2 too.
+once-first : timesAccepted 0 (answersTo memory₂ partway) (book₂ .expected) ≡ 1
+once-first = holds₂ .acceptedOnce 0 (part-book .first)
 
--- each transaction has its last message added, and none more
-full₂ : (length (ofTransaction 0 (addedMessages book₂)) ≤ 2) × (length (ofTransaction 1 (addedMessages book₂)) ≤ 3)
+once-third : timesAccepted 2 (answersTo memory₂ partway) (book₂ .expected) ≡ 1
+once-third = holds₂ .acceptedOnce 2 (part-book .third)
+
+-- Of the four sealed frames the card has three left; the one released was accepted.
+three-left : unreleasedAfter memory₂ partway ≡ 3
+three-left = omega (arith, holds₂ .releasedAgrees, part-book .sealed, part-book .released)
+
+released-once : timesAccepted 0 (answersTo memory₂ partway) (book₂ .expected) ≡ 1
+released-once = holds₂ .releasedAccepted 0 (omega (arith, three-left, part-book .sealed))
+
+-- Each transaction has its last message added, and none more.
+none-over : (length (ofTransaction 0 (addedMessages book₂)) ≤ 2) × (length (ofTransaction 1 (addedMessages book₂)) ≤ 3)
     × (length (ofTransaction 2 (addedMessages book₂)) ≤ 1)
 unfolding computing partway
-full₂ = (holds₂ .noneOver 0 (lit< tt), holds₂ .noneOver 1 (lit< tt), holds₂ .noneOver 2 (lit< tt))
+none-over = (holds₂ .noneOver 0 (lit< tt), holds₂ .noneOver 1 (lit< tt), holds₂ .noneOver 2 (lit< tt))
 
--- of six messages with seven bytes three with four are accepted, and one of three transactions is complete
-sums₂ : (messagesSum answers₂ ≡ 3) × (bytesSum answers₂ ≡ 4) × (completeSum answers₂ ≡ 1)
-unfolding computing partway
-sums₂ = (holds₂ .messagesAgree, holds₂ .bytesAgree, holds₂ .completeAgree)
+messages-part : messagesSum (answersTo memory₂ partway) ≡ 3
+messages-part = holds₂ .messagesAgree ∙ part-book .messages
 
--- the data of both transactions in the accepted frames, and the completion of the first
-memory-is₂ : runs specified memory₂ partway .system .memory
-    ≡ 0 ∷ 0 ∷ 9 ∷ 0 ∷ 3 ∷ 4 ∷ 5 ∷ replicate 13 0 ++ 7 ∷ replicate 11 0
-unfolding computing partway
-memory-is₂ = holds₂ .memoryAgrees
+bytes-part : bytesSum (answersTo memory₂ partway) ≡ 4
+bytes-part = holds₂ .bytesAgree ∙ part-book .bytes
+
+complete-part : completeSum (answersTo memory₂ partway) ≡ 1
+complete-part = holds₂ .completeAgree ∙ part-book .complete
+
+memory-part : memoryAfter memory₂ partway ≡ 0 ∷ 0 ∷ 9 ∷ 0 ∷ 3 ∷ 4 ∷ 5 ∷ replicate 13 0 ++ 7 ∷ replicate 11 0
+memory-part = holds₂ .memoryAgrees ∙ part-book .memory
 
 -- ---- why writes of transactions that are open together must not meet
 

@@ -1,6 +1,6 @@
 -- Demand 3 shuts out the older host, which takes a new frame for an old copy once frame numbers have come round: it
--- compares the 16-bit numbers plainly, so that frame 65,536, whose number is 0, lies "behind" while frame 65,535 is
--- awaited; and a frame that is behind it acknowledges and throws away. Nothing of this shows before the numbers come
+-- compares the 16-bit numbers plainly, so that frame 65,536, whose number is 0, lies "plainlyBehind" while frame 65,535 is
+-- awaited; and a frame that is plainlyBehind it acknowledges and throws away. Nothing of this shows before the numbers come
 -- round. So the list that refutes it brings 65,535 frames through in order, loses the next one and delivers the one
 -- after. Assumes nothing.
 use Prim.Native.Nat.{ℕ, suc, _%_}
@@ -63,7 +63,7 @@ use Rattle.delivery.specs.Demand3.{
   Guarantees,
   Demand3For,
 }
-use Rattle.delivery.specs.WrongEnds.{behind, numberedPlainly, answeredPlainly, comparesPlainly, older}
+use Rattle.delivery.specs.WrongEnds.{plainlyBehind, numberedPlainly, answeredPlainly, comparesPlainly, older}
 use Rattle.delivery.proofs.Host.HostStep.{wired}
 use Rattle.delivery.proofs.Lists.Check.{slots₀}
 use Rattle.delivery.proofs.Wrong.Excluded.{kind}
@@ -119,11 +119,11 @@ Wrong w b = Guarantees (outcomeOf w) b → ⊥
 
 -- ---- how the older host answers
 
-not-behind : (n : ℕ) → behind n n ≡ false
-unfolding behind
-not-behind n = go (behind n n) refl
+not-behind : (n : ℕ) → plainlyBehind n n ≡ false
+unfolding plainlyBehind
+not-behind n = go (plainlyBehind n n) refl
   where
-    go : (y : Bool) → behind n n ≡ y → y ≡ false
+    go : (y : Bool) → plainlyBehind n n ≡ y → y ≡ false
     go false q = refl
     go true q = absurd (omega (arith, ltb-true))
 
@@ -165,7 +165,7 @@ module _ (w : System) (b : Book) (k c : ℕ) (e : MessageRecord) (a : Arrival w 
       same = plainly ∙ alike ∙ sym (by-its-number w b k c e a)
 
   -- a frame whose number is below the awaited one's: "again", whether it is a copy or new
-  says-again : behind num (lowestNotAccepted b % frameSpace) ≡ true
+  says-again : plainlyBehind num (lowestNotAccepted b % frameSpace) ≡ true
       → comparesPlainly h frame (w .memory) ≡ unchanged h (w .memory) (Again (record { 0 = num }))
   unfolding numberedPlainly
   says-again q = plainly ∙ rw (a .agree .rest .hostFor .nextIs, q)
@@ -179,7 +179,7 @@ module _ (n : ℕ) (hs : List HandOut) (ds : List AckRange) (ys : List Expected)
   -- The book expects frame 65,536 to be accepted, and the older host, which awaits frame 65,535, answers "again".
   lost : n ≡ 65535 → length hs ≡ n → Leading comparesPlainly in-turn true Wrong (receives n ∷ [])
       (page n two [] (hs ++ (frameCopy (suc n) ∷ [])) ds ys)
-  unfolding behind typed allTyped notTooLate run bookFrom step byHost messagesIn enterArrival changeAt seenAs numberedAs
+  unfolding plainlyBehind typed allTyped notTooLate run bookFrom step byHost messagesIn enterArrival changeAt seenAs numberedAs
       kind
   lost is long w f =
       before comparesPlainly in-turn true Wrong (receives n) [] w b b′ refl
@@ -222,7 +222,7 @@ module _ (n : ℕ) (hs : List HandOut) (ds : List AckRange) (ys : List Expected)
       lowest = past-leads (λ x. x .accepted) refl n two refl
 
       -- number 0 against number 65,535
-      compared : behind (suc n % frameSpace) (lowestNotAccepted b % frameSpace) ≡ true
+      compared : plainlyBehind (suc n % frameSpace) (lowestNotAccepted b % frameSpace) ≡ true
       compared = rw (lowest, is) refl
 
       received : Received
