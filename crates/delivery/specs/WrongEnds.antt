@@ -43,10 +43,10 @@ use Rattle.delivery.specs.System.{
 abbrev pub Receiving : Type 0
 Receiving = Pair → List ℕ → List ℕ → Received
 
--- Another receiving at the host, another acknowledging, other steps of the card.
 abbrev pub Acknowledging : Type 0
 Acknowledging = Pair → Answer → ℕ → Acknowledgement
 
+-- Another receiving at the host, another acknowledging, another step of the card.
 abbrev pub hostWith : Receiving → Acknowledging → Implementation
 hostWith receiving acknowledging = record {
   cardEnd = specifiedCard;
@@ -59,21 +59,51 @@ withHost r = hostWith r (specifiedHost .acknowledging)
 abbrev pub withAcknowledging : Acknowledging → Implementation
 withAcknowledging a = hostWith receiveOf a
 
-abbrev pub withCardSteps : (ℕ → ℕ → ℕ → List ℕ → CardResult) → (Card → List ℕ → ℕ → ℕ → List ℕ → CardResult)
-    → (Card → List ℕ → CardResult) → (Card → List ℕ → List ℕ → CardResult) → (Card → List ℕ → ℕ → CardResult)
-    → Implementation
-withCardSteps opened added sealed read shown = record {
+abbrev pub cardWith : (ℕ → ℕ → ℕ → List ℕ → CardResult) → (Card → List ℕ → ℕ → ℕ → ℕ → CardResult)
+    → (Card → List ℕ → ℕ → ℕ → List ℕ → CardResult) → (Card → List ℕ → CardResult)
+    → (Card → List ℕ → List ℕ → CardResult) → (Card → List ℕ → ℕ → CardResult) → Implementation
+cardWith cardOpening opening adding sealing reading showing = record {
   cardEnd = record {
-    cardOpening = opened;
-    opening = specifiedCard .opening;
-    adding = added;
-    sealing = sealed;
-    reading = read;
-    showing = shown;
+    cardOpening = cardOpening;
+    opening = opening;
+    adding = adding;
+    sealing = sealing;
+    reading = reading;
+    showing = showing;
     choosing = specifiedCard .choosing;
   };
   hostEnd = specifiedHost;
 }
+
+abbrev pub withCardOpening : (ℕ → ℕ → ℕ → List ℕ → CardResult) → Implementation
+withCardOpening f =
+    cardWith f (specifiedCard .opening) (specifiedCard .adding) (specifiedCard .sealing) (specifiedCard .reading)
+    (specifiedCard .showing)
+
+abbrev pub withOpening : (Card → List ℕ → ℕ → ℕ → ℕ → CardResult) → Implementation
+withOpening f =
+    cardWith (specifiedCard .cardOpening) f (specifiedCard .adding) (specifiedCard .sealing) (specifiedCard .reading)
+    (specifiedCard .showing)
+
+abbrev pub withAdding : (Card → List ℕ → ℕ → ℕ → List ℕ → CardResult) → Implementation
+withAdding f =
+    cardWith (specifiedCard .cardOpening) (specifiedCard .opening) f (specifiedCard .sealing) (specifiedCard .reading)
+    (specifiedCard .showing)
+
+abbrev pub withSealing : (Card → List ℕ → CardResult) → Implementation
+withSealing f =
+    cardWith (specifiedCard .cardOpening) (specifiedCard .opening) (specifiedCard .adding) f (specifiedCard .reading)
+    (specifiedCard .showing)
+
+abbrev pub withReading : (Card → List ℕ → List ℕ → CardResult) → Implementation
+withReading f =
+    cardWith (specifiedCard .cardOpening) (specifiedCard .opening) (specifiedCard .adding) (specifiedCard .sealing) f
+    (specifiedCard .showing)
+
+abbrev pub withShowing : (Card → List ℕ → ℕ → CardResult) → Implementation
+withShowing f =
+    cardWith (specifiedCard .cardOpening) (specifiedCard .opening) (specifiedCard .adding) (specifiedCard .sealing)
+    (specifiedCard .reading) f
 
 -- ---- hosts that answer or write at will
 
@@ -210,11 +240,13 @@ swapsIds own peer limit slots = specifiedCard .cardOpening peer own limit slots
 unfoldable pub showsOther : Card → List ℕ → ℕ → CardResult
 showsOther c s n = handedOver (specifiedCard .showing c s n .refusal) c s (specifiedCard .showing c s (suc n) .part)
 
+-- It opens each transaction with one message more than it is asked for.
+unfoldable pub opensLarger : Card → List ℕ → ℕ → ℕ → ℕ → CardResult
+opensLarger c s count address value = specifiedCard .opening c s (suc count) address value
+
 -- It refuses every message.
 abbrev pub addsNothing : Implementation
-addsNothing =
-    withCardSteps (specifiedCard .cardOpening) (λ c slots t at bytes. handedOver 23 c slots []) (specifiedCard .sealing)
-    (specifiedCard .reading) (specifiedCard .showing)
+addsNothing = withAdding (λ c slots t at bytes. handedOver 23 c slots [])
 
 -- ---- the older host
 

@@ -2,7 +2,7 @@
 -- that the premises shut out, where host and book do differ. What stands in the book is found by running the list; what
 -- the host answered, what it left in memory and what the card released follows from the theorem alone.
 -- Assumes nothing.
-use Prim.Native.Nat.{ℕ, zero, suc, _+_, _≤_, _<_}
+use Prim.Native.Nat.{ℕ, zero, suc, _≤_, _<_}
 use native.Mathlib.Omega.{arith}
 use mathlib.Core.Path.{_≡_, refl, ap, _∙_}
 use mathlib.Core.Bool.{true}
@@ -12,7 +12,6 @@ use lib.ListN.{length, replicate, getD}
 use Rattle.host.specs.declared.Answer.{Answer}
 use Rattle.send_window.specs.Window.{unreleased}
 use Rattle.delivery.specs.Book.{
-  Expected,
   expectAccepted,
   expectAgain,
   expectNoEffect,

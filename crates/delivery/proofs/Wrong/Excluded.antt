@@ -1,15 +1,15 @@
 -- What demand 3 shuts out: for each wrong pair of ends a list of calls that meets the premises, where the demand's
 -- conclusion is false. And what it does not: a card that adds nothing meets it. Assumes nothing.
-use Prim.Native.Nat.{ℕ, zero, suc, _<_}
+use Prim.Native.Nat.{ℕ, zero, suc, _+_, _≤_, _<_}
 use native.Mathlib.Omega.{arith}
 use mathlib.Core.Path.{_≡_, refl, ap}
 use mathlib.Core.Bool.{true}
 use mathlib.Core.List.{List, [], _∷_}
+use lib.Dec.{lit<}
 use lib.ListN.{getD, replicate}
 use Rattle.seq.specs.Ring.{frameSpace}
-use Rattle.delivery.specs.Book.{Expected, expectAccepted, expectAgain, expectNoEffect, enter}
+use Rattle.delivery.specs.Book.{Expected, expectAccepted, expectAgain, expectNoEffect, finished, enter}
 use Rattle.delivery.specs.System.{
-  specifiedCard,
   openCall,
   addCall,
   sealCall,
@@ -30,12 +30,16 @@ use Rattle.delivery.specs.System.{
   step,
   initial,
 }
-use Rattle.delivery.specs.Demand3.{Demand3For}
+use Rattle.delivery.specs.Demand3.{outcomeOf, Guarantees, Demand3For}
 use Rattle.delivery.specs.WrongEnds.{
   Receiving,
   withHost,
   withAcknowledging,
-  withCardSteps,
+  withCardOpening,
+  withOpening,
+  withSealing,
+  withReading,
+  withShowing,
   refusesAll,
   againToAll,
   writesFirst,
@@ -53,11 +57,12 @@ use Rattle.delivery.specs.WrongEnds.{
   ignoresAcks,
   swapsIds,
   showsOther,
+  opensLarger,
   addsNothing,
 }
 use Rattle.delivery.proofs.Card.CardSteps.{stays}
 use Rattle.delivery.proofs.Demand.{KeepsAgreement, starts, step-any, demand3-by}
-use Rattle.delivery.proofs.Lists.Check.{passes, applied}
+use Rattle.delivery.proofs.Lists.Check.{runs, booked, passes, applied}
 use Rattle.delivery.proofs.Lists.Computing.{computing}
 
 -- The kind of the k-th answer, as a number.
@@ -133,6 +138,35 @@ not-invents f g k d =
       ap (λ xs. completedIn (getD xs 0 expectNoEffect)) e,
     )
 
+-- The sums alone tell it too, and they do so again once all is finished.
+inOrderRead : List Event
+inOrderRead =
+    opens 1 0 1 ∷ adds 0 4 (9 ∷ []) ∷ seals ∷ shows 0 ∷ receives 0 ∷ reads 0
+    ∷ opens 1 5 1 ∷ adds 1 9 (9 ∷ []) ∷ seals ∷ shows 1 ∷ receives 1 ∷ reads 1 ∷ []
+
+module _ (f g k : ℕ → ℕ) (d : Demand3For (withHost (invents f g k))) where
+  held : Guarantees (outcomeOf (runs (withHost (invents f g k)) (replicate 10 0) inOrderRead .system))
+      (booked (withHost (invents f g k)) (replicate 10 0) inOrderRead)
+  unfolding computing inOrderRead invents reporting
+  held = applied _ d (replicate 10 0) inOrderRead refl
+
+  sums-told : (f 1 + (f 1 + 0) ≡ 2) × (g 1 + (g 1 + 0) ≡ 2) × (k 1 + (k 1 + 0) ≡ 2)
+  unfolding computing inOrderRead invents reporting
+  sums-told = (held .messagesAgree, held .bytesAgree, held .completeAgree)
+
+  all-finished : (i : ℕ) → i < 2
+      → finished (booked (withHost (invents f g k)) (replicate 10 0) inOrderRead) i ≡ true
+  unfolding computing inOrderRead invents reporting
+  all-finished zero h = refl
+  all-finished (suc zero) h = refl
+  all-finished (suc (suc i)) h = absurd (omega arith)
+
+  whole-sums-told : (f 1 + (f 1 + 0) ≡ 2) × (g 1 + (g 1 + 0) ≡ 2) × (k 1 + (k 1 + 0) ≡ 2)
+  unfolding computing inOrderRead invents reporting
+  whole-sums-told =
+      let w = held .whenAllFinished all-finished in
+      (w .messagesWhole, w .bytesWhole, w .completeWhole)
+
 -- ---- hosts with one fault
 
 manyOpens : ℕ → List Event → List Event
@@ -151,10 +185,11 @@ not-windowShort d =
 twice : List Event
 twice = opens 2 0 1 ∷ adds 0 4 (9 ∷ []) ∷ seals ∷ shows 0 ∷ receives 0 ∷ receives 0 ∷ []
 
+-- It accepts the frame twice.
 not-forgets : Demand3For (withHost forgets) → ⊥
-unfolding computing twice forgets kind kindAt
+unfolding computing twice forgets
 not-forgets d =
-    let z : _≡_ {A = ℕ} 1 2 = ap (kindAt 1) (applied _ d (replicate 10 0) twice refl .answersMatch) in
+    let z : _≡_ {A = ℕ} 2 1 = applied _ d (replicate 10 0) twice refl .acceptedOnce 0 refl in
     omega arith
 
 swapped : List Event
@@ -175,12 +210,18 @@ not-completesEarly d =
     let z : _≡_ {A = ℕ} 1 0 = ap (λ m. getD m 0 0) (applied _ d (replicate 10 0) twice refl .memoryAgrees) in
     omega arith
 
+-- Both transactions are finished, and no completion is written.
 not-neverCompletes : Demand3For (withHost neverCompletes) → ⊥
-unfolding computing inOrder neverCompletes
+unfolding computing inOrderRead neverCompletes
 not-neverCompletes d =
-    let z : _≡_ {A = ℕ} 0 1 =
-    ap (λ m. getD m 0 0) (applied _ d (replicate 10 0) inOrder (met neverCompletes) .memoryAgrees) in
+    let g = applied _ d (replicate 10 0) inOrderRead refl in
+    let z : _≡_ {A = ℕ} 0 1 = ap (λ m. getD m 0 0) (g .whenAllFinished finished-both .memoryInTurn) in
     omega arith
+  where
+    finished-both : (i : ℕ) → i < 2 → finished (booked (withHost neverCompletes) (replicate 10 0) inOrderRead) i ≡ true
+    finished-both zero h = refl
+    finished-both (suc zero) h = refl
+    finished-both (suc (suc i)) h = absurd (omega arith)
 
 oneOfTwo : List Event
 oneOfTwo =
@@ -209,25 +250,23 @@ not-silentOnAgain d =
 sealedOne : List Event
 sealedOne = opens 0 0 0 ∷ adds 0 0 [] ∷ seals ∷ []
 
-not-releasesEarly : Demand3For (withCardSteps (specifiedCard .cardOpening) (specifiedCard .adding) releasesEarly
-    (specifiedCard .reading) (specifiedCard .showing)) → ⊥
+-- What it releases never reached the host.
+not-releasesEarly : Demand3For (withSealing releasesEarly) → ⊥
 unfolding computing sealedOne releasesEarly
 not-releasesEarly d =
-    let z : _≡_ {A = ℕ} 1 0 = applied _ d (replicate 4 0) sealedOne refl .releasedAgrees in
+    let z : _≡_ {A = ℕ} 0 1 = applied _ d (replicate 4 0) sealedOne refl .releasedAccepted 0 (lit< tt) in
     omega arith
 
 acknowledgedOne : List Event
 acknowledgedOne = opens 0 0 0 ∷ adds 0 0 [] ∷ seals ∷ shows 0 ∷ receives 0 ∷ reads 0 ∷ []
 
-not-ignoresAcks : Demand3For (withCardSteps (specifiedCard .cardOpening) (specifiedCard .adding)
-    (specifiedCard .sealing) ignoresAcks (specifiedCard .showing)) → ⊥
+not-ignoresAcks : Demand3For (withReading ignoresAcks) → ⊥
 unfolding computing acknowledgedOne ignoresAcks
 not-ignoresAcks d =
     let z : _≡_ {A = ℕ} 1 2 = applied _ d (replicate 4 0) acknowledgedOne refl .releasedAgrees in
     omega arith
 
-not-swapsIds : Demand3For (withCardSteps swapsIds (specifiedCard .adding) (specifiedCard .sealing)
-    (specifiedCard .reading) (specifiedCard .showing)) → ⊥
+not-swapsIds : Demand3For (withCardOpening swapsIds) → ⊥
 unfolding computing inOrder swapsIds kind kindAt
 not-swapsIds d =
     let z : _≡_ {A = ℕ} 3 1 = ap (kindAt 0) (applied _ d (replicate 10 0) inOrder refl .answersMatch) in
@@ -242,12 +281,21 @@ countIn (expectAccepted c s) = c
 countIn (expectAgain c) = c
 countIn expectNoEffect = 0
 
-not-showsOther : Demand3For (withCardSteps (specifiedCard .cardOpening) (specifiedCard .adding) (specifiedCard .sealing)
-    (specifiedCard .reading) showsOther) → ⊥
+not-showsOther : Demand3For (withShowing showsOther) → ⊥
 unfolding computing sealedTwo showsOther countIn
 not-showsOther d =
     let z : _≡_ {A = ℕ} 1 0 =
     ap (λ xs. countIn (getD xs 0 expectNoEffect)) (applied _ d (replicate 6 0) sealedTwo refl .answersMatch) in
+    omega arith
+
+-- Two messages are added of a transaction that takes one.
+oneOver : List Event
+oneOver = opens 1 0 1 ∷ adds 0 4 [] ∷ adds 0 4 [] ∷ []
+
+not-opensLarger : Demand3For (withOpening opensLarger) → ⊥
+unfolding computing oneOver opensLarger
+not-opensLarger d =
+    let z : 2 ≤ 1 = applied _ d (replicate 4 0) oneOver refl .noneOver 0 (lit< tt) in
     omega arith
 
 -- A card that adds nothing meets demand 3: the demand asks nothing to be sent. (Nor does it speak of the numbers that
