@@ -1,0 +1,137 @@
+"""Reads the promises of the public functions of crates/*/src, for tools/check-claims.
+
+The rules ask of every public function (S1, S3) that its promise equates its result, and every buffer that it may write as it is
+at exit, with a definition, over any input. So for each `pub fn`:
+  no `requires`;
+  if it returns something, an `ensures` with an equation whose left side is the result;
+  for each parameter of type `&mut`, an `ensures` with an equation whose left side is that parameter at exit.
+An equation with the same thing on its right side says nothing and does not count. Nor does a named relation, which may hide a
+condition: where one is needed, it is an exemption with its reason (EXEMPT in tools/check-claims).
+"""
+import re
+
+# Under these functions a result or a buffer at exit may be equated: the state that words stand for. What is left open then is what
+# the words do not mean.
+MEANINGS = ("pairOf", "cardOf")
+# Structs of one field, which are known when that field is.
+ONE_FIELD = ("FrameNo", "TransNo")
+
+HEAD = re.compile(r'\bpub\s+(?:extern\s+"C"\s+)?fn\s+(\w+)\s*(?:<[^>]*>)?\s*\(')
+CLAUSE = re.compile(r"\s*(requires|ensures|decreases|measure)\b[^{]*\{")
+OPENING, CLOSING = "({[", ")}]"
+
+
+class Function:
+    """A public function: where it stands, its name, parameters, result and clauses, each clause as (kind, text)."""
+
+    def __init__(self, position, name, parameters, result, clauses):
+        self.position, self.name, self.result, self.clauses = position, name, result, clauses
+        self.parameters = [p.strip() for p in split_at(parameters, ",") if p.strip()]
+
+    def lent_for_writing(self):
+        """The names of the parameters that it may write to."""
+        found = [re.match(r"(?:(\w+)\s*:\s*)?&\s*(?:'\w+\s+)?mut\b", p) for p in self.parameters]
+        return [m.group(1) or "self" for m in found if m]
+
+    def equations(self):
+        """Each equation that it promises, as (name of the result there, left side, right side)."""
+        for kind, text in self.clauses:
+            said = re.fullmatch(r"\s*λ\s*(\S+?)\.\s*⌜(.*)⌝\s*", text, flags=re.S)
+            if kind == "ensures" and said:
+                for part in conjuncts(said.group(2)):
+                    sides = split_at(part, "≡")
+                    if len(sides) == 2:
+                        yield said.group(1), bare(sides[0]), bare(sides[1])
+
+
+def without_comments(text):
+    """A source with its comments as blanks, so that every position stays."""
+    return re.sub(r"//.*", lambda m: " " * len(m.group()), text)
+
+
+def past(text, start):
+    """Where the bracket that opens at start has closed."""
+    depth = 0
+    for i in range(start, len(text)):
+        depth += (text[i] in OPENING) - (text[i] in CLOSING)
+        if depth == 0:
+            return i + 1
+    return len(text)
+
+
+def split_at(text, sign):
+    """A text cut at a sign wherever it stands in no bracket."""
+    parts, depth = [""], 0
+    for c in text:
+        depth += (c in OPENING) - (c in CLOSING)
+        if c == sign and depth == 0:
+            parts.append("")
+        else:
+            parts[-1] += c
+    return parts
+
+
+def bare(text):
+    """A term on one line, without brackets around the whole of it."""
+    text = " ".join(text.split())
+    while text.startswith("(") and past(text, 0) == len(text):
+        text = text[1:-1].strip()
+    return text
+
+
+def conjuncts(text):
+    """The parts of a proposition that × joins, at any depth."""
+    text = bare(text)
+    parts = split_at(text, "×")
+    return [text] if len(parts) == 1 else [c for part in parts for c in conjuncts(part)]
+
+
+def public_functions(text):
+    """The public functions of a source."""
+    text = without_comments(text)
+    for head in HEAD.finditer(text):
+        end = past(text, head.end() - 1)
+        parameters = text[head.end() : end - 1]
+        result = re.match(r"\s*->\s*(.*?)\s*(?=\b(?:requires|ensures|decreases|measure)\b|\{)", text[end:], flags=re.S)
+        at, clauses = end + (result.end() if result else 0), []
+        clause = CLAUSE.match(text, at)
+        while clause:
+            at = past(text, clause.end() - 1)
+            clauses.append((clause.group(1), text[clause.end() : at - 1]))
+            clause = CLAUSE.match(text, at)
+        yield Function(head.start(), head.group(1), parameters, result.group(1) if result else "", clauses)
+
+
+def is_left(left, subject, more):
+    """Whether the left side of an equation is the subject itself, or what it means."""
+    forms = {subject, f"now {subject}"} | set(more)
+    forms |= {f"{m} {subject}" for m in MEANINGS} | {f"{m} (now {subject})" for m in MEANINGS}
+    return left in forms
+
+
+def speaks_of(side, subject):
+    return re.search(rf"(?<![\w'.]){re.escape(subject)}(?![\w'])", side) is not None
+
+
+def equates_result(function):
+    for r, left, right in function.equations():
+        field = [f"{r} .0"] if function.result in ONE_FIELD else []
+        if r != "_" and is_left(left, r, field) and not speaks_of(right, r):
+            return True
+    return False
+
+
+def equates_at_exit(function, parameter):
+    exit = f"({parameter} .exit)"
+    return any(is_left(left, exit, []) and exit not in right for _, left, right in function.equations())
+
+
+def faults(function):
+    """What is missing in a function's promise, in words."""
+    if any(kind == "requires" for kind, _ in function.clauses):
+        yield "has a `requires`"
+    if function.result not in ("", "()") and not equates_result(function):
+        yield "has no `ensures` that equates its result"
+    for parameter in function.lent_for_writing():
+        if not equates_at_exit(function, parameter):
+            yield f"has no `ensures` that equates {parameter} at exit"
