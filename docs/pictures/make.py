@@ -1,5 +1,5 @@
 #!/usr/bin/env python3
-"""Makes the pictures of this folder: the frame format, the windows, the lives of frames and transactions, the crates.
+"""Makes the pictures of this folder: the frame format, the windows, the lives of frames and transactions, a frame's journey, the crates.
 
 `make.py` writes them; `make.py --check` writes nothing and exits with 1 where a stored picture is not the one made here.
 The crates are read from crates.txt; PLACES says where each is drawn, and a crate without a place is an error.
@@ -477,6 +477,167 @@ def draw_lives():
     return p
 
 
+# ---- a frame's journey
+
+CARD_X, HOST_X = 108, 242
+
+
+def note(p, x, y, side, tag, fill, rows=()):
+    """What one end makes of what came: a word on a colour, and lines below it. Side -1 is left of the card, 1 right of the host."""
+    anchor = "end" if side < 0 else "start"
+    if tag:
+        wide = len(tag) * 11 * 0.67 + 10
+        p.rect(x - wide if side < 0 else x, y - 12, wide, 17, fill, round=5, width=0.8)
+        p.text(x + side * wide / 2, y, tag, 11, bold=True)
+    for i, row in enumerate(rows):
+        p.text(x, y + (16 if tag else 0) + 13 * i, row, 10.5, anchor, INK if tag else SOFT)
+
+
+def sent(p, x1, y1, x2, y2, words, dash=""):
+    """An arrow through the network, with its name above the middle of it."""
+    p.line(x1, y1, x2, y2, arrow=True, dash=dash)
+    p.text((x1 + x2) / 2, (y1 + y2) / 2 - 12, words, 10.5, halo=GREY)
+
+
+def lost(p, x1, y1, x2, words):
+    """An arrow that ends in the network."""
+    x, y = (x1 + x2) / 2 + (x2 - x1) / 12, y1 + 14
+    p.line(x1, y1, x, y)
+    for a in (-5, 5):
+        p.line(x - 5, y - a, x + 5, y + a, stroke=RED_INK, width=2)
+    p.text((x1 + x2) / 2, y1 - 6, words, 10.5, halo=GREY)
+
+
+class Journey:
+    """A cell of the picture: card, network and host beside each other, time downwards. Times are pixels from its top."""
+
+    def __init__(self, p, x, y, title, height):
+        self.p, self.card, self.host, self.top = p, x + CARD_X, x + HOST_X, y + 50
+        p.text(x + 8, y + 2, title, 14, "start", bold=True)
+        p.rect(self.card, y + 34, self.host - self.card, height - 34, GREY, GREY)
+        for at, name, fill in [(self.card, "card", BLUE), (self.host, "host", AMBER)]:
+            p.line(at, y + 34, at, y + height, stroke=INK, width=1.6)
+            p.rect(at - 24, y + 16, 48, 20, fill, round=5)
+            p.text(at, y + 30, name, 12, bold=True)
+        p.text((self.card + self.host) / 2, y + 30, "network", 10.5, colour=SOFT)
+
+    def frame(self, start, end, words):
+        sent(self.p, self.card, self.top + start, self.host - 1, self.top + end, words)
+
+    def ack(self, start, end, words):
+        sent(self.p, self.host, self.top + start, self.card + 1, self.top + end, words)
+
+    def frame_lost(self, start, words):
+        lost(self.p, self.card, self.top + start, self.host, words)
+
+    def ack_lost(self, start, words):
+        lost(self.p, self.host, self.top + start, self.card, words)
+
+    def at_card(self, at, tag, fill=GREY, rows=()):
+        note(self.p, self.card - 9, self.top + at, -1, tag, fill, rows)
+
+    def at_host(self, at, tag, fill=GREY, rows=()):
+        note(self.p, self.host + 9, self.top + at, 1, tag, fill, rows)
+
+
+WAITING = ["still held: the", "caller has it sent", "again"]
+
+
+def nothing_lost(p, x, y):
+    j = Journey(p, x, y, "Nothing is lost", 254)
+    j.at_card(16, "held", GREEN, ["sealed, and kept", "in its slot"])
+    j.frame(20, 40, "frame 0")
+    j.at_host(44, "accepted", GREEN, ["judged, written,", "number marked"])
+    j.ack(76, 96, "acknowledges 0")
+    j.at_card(104, "released", GREY, ["its slot is free"])
+
+
+def frame_lost(p, x, y):
+    j = Journey(p, x, y, "The frame is lost: it is sent again", 254)
+    j.at_card(16, "held", GREEN)
+    j.frame_lost(20, "frame 0")
+    j.at_host(38, "", rows=["has not seen it"])
+    j.at_card(58, "", rows=WAITING)
+    j.frame(92, 112, "frame 0, resent")
+    j.at_host(116, "accepted", GREEN, ["judged, written,", "number marked"])
+    j.ack(148, 168, "acknowledges 0")
+    j.at_card(176, "released", GREY)
+
+
+def ack_lost(p, x, y):
+    j = Journey(p, x, y, "The acknowledgement is lost", 254)
+    j.at_card(16, "held", GREEN)
+    j.frame(20, 40, "frame 0")
+    j.at_host(44, "accepted", GREEN)
+    j.ack_lost(64, "acknowledges 0")
+    j.at_card(74, "", rows=WAITING)
+    j.frame(108, 128, "frame 0, resent")
+    j.at_host(132, "again", AMBER, ["not a byte is", "written; it is", "acknowledged"])
+    j.ack(158, 178, "acknowledges 0")
+    j.at_card(186, "released", GREY)
+
+
+def repeated(p, x, y):
+    j = Journey(p, x, y, "The frame is repeated by the network", 254)
+    j.at_card(16, "held", GREEN)
+    j.frame(20, 40, "frame 0")
+    middle = (j.card + j.host) / 2
+    p.path(f"M{num(middle)} {num(j.top + 30)}C{num(middle)} {num(j.top + 80)} {num(middle)} {num(j.top + 96)} {num(j.host - 1)} "
+           f"{num(j.top + 116)}", dash="4 3", arrow=True)
+    j.at_host(44, "accepted", GREEN, ["judged, written,", "number marked"])
+    j.ack(62, 82, "acknowledges 0")
+    j.at_card(90, "released", GREY)
+    p.text(middle - 4, j.top + 116, "a copy of it", 10.5, halo=GREY)
+    j.at_host(120, "again", AMBER, ["not a byte is", "written; it is", "acknowledged"])
+    j.ack(146, 166, "acknowledges 0")
+    j.at_card(172, "", rows=["ignored: frame 0", "is released"])
+
+
+def reordered(p, x, y):
+    j = Journey(p, x, y, "Two frames change places", 254)
+    j.at_card(16, "both held", GREEN)
+    p.line(j.card, j.top + 16, j.host - 1, j.top + 126, arrow=True)
+    p.text(j.card + 30, j.top + 22, "frame 0", 10.5, "start", halo=GREY)
+    p.line(j.card, j.top + 46, j.host - 1, j.top + 60, arrow=True)
+    p.text(j.host - 8, j.top + 48, "frame 1", 10.5, "end", halo=GREY)
+    j.at_host(64, "accepted", GREEN, ["1 is marked,", "next stays 0"])
+    p.line(j.host, j.top + 84, j.card + 1, j.top + 104, arrow=True)
+    p.text(j.card + 6, j.top + 119, "acknowledges 1", 10.5, "start", halo=GREY)
+    j.at_card(108, "acknowledged", AMBER, ["1: not released", "before 0 is", "acknowledged"])
+    j.at_host(130, "accepted", GREEN, ["next moves past", "both, to 2"])
+    j.ack(158, 178, "acknowledges 0")
+    j.at_card(182, "released", GREY, ["0, and 1 with it"])
+
+
+def in_every_case(p, x, y):
+    p.text(x + 8, y + 2, "In every case", 14, "start", bold=True)
+    p.lines(x + 8, y + 32, [
+        "The card keeps a frame until it, and every frame",
+        "sealed before it, is acknowledged. When to send a",
+        "held frame again the caller decides: there are no",
+        "timers.",
+        "",
+        "The host acknowledges each copy that it answers",
+        "accepted or again, and only the first one is written",
+        "and counted.",
+        "",
+        "A refused frame is not acknowledged and changes",
+        "nothing; it stays held.",
+        "",
+        "Nothing is altered or invented, and nothing comes",
+        "more than 32,768 numbers late: the theorem's",
+        "premises.",
+    ], 11.5, "start", lead=1.22)
+
+
+def draw_journey():
+    p = Picture("journey.svg", 1070, 576, "A frame's journey from the card to the host, its acknowledgement, and what happens where each is lost")
+    cells = [nothing_lost, frame_lost, ack_lost, repeated, reordered, in_every_case]
+    for i, cell in enumerate(cells):
+        cell(p, 10 + 354 * (i % 3), 24 + 284 * (i // 3))
+    return p
+
+
 # ---- the crates
 
 # Floors: what is written beside them, their colour, and their rectangle: left, right, lowest row, highest row.
@@ -681,7 +842,7 @@ def draw_seen(sees):
 
 def pictures():
     sees = read_crates()
-    return [draw_frame(), draw_windows(), draw_lives(), draw_crates(sees), draw_seen(sees)]
+    return [draw_frame(), draw_windows(), draw_lives(), draw_journey(), draw_crates(sees), draw_seen(sees)]
 
 
 def check(made):
