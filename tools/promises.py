@@ -5,8 +5,9 @@ at exit, with a definition, over any input. So for each `pub fn`:
   no `requires`;
   if it returns something, an `ensures` with an equation whose left side is the result;
   for each parameter of type `&mut`, an `ensures` with an equation whose left side is that parameter at exit.
-An equation with the same thing on its right side says nothing and does not count. Nor does a named relation, which may hide a
-condition: where one is needed, it is an exemption with its reason (EXEMPT in tools/check-claims).
+An equation with the same thing on its right side says nothing and does not count. A relation that a file of specs/ defines counts where
+its definition equates: without a condition, or in both of two cases `a ≡ b → ..` and `a ≢ b → ..`. What else is needed is an
+exemption with its reason (EXEMPT in tools/check-claims).
 """
 import re
 
@@ -42,6 +43,16 @@ class Function:
                     sides = split_at(part, "≡")
                     if len(sides) == 2:
                         yield said.group(1), bare(sides[0]), bare(sides[1])
+
+    def relations(self):
+        """Each relation that it promises, as (name of the result there, name of the relation, arguments)."""
+        for kind, text in self.clauses:
+            said = re.fullmatch(r"\s*λ\s*(\S+?)\.\s*⌜(.*)⌝\s*", text, flags=re.S)
+            if kind == "ensures" and said:
+                for part in conjuncts(said.group(2)):
+                    name, *arguments = [bare(term) for term in split_at(part, " ")]
+                    if re.fullmatch(r"[A-Z]\w*", name):
+                        yield said.group(1), name, arguments
 
 
 def without_comments(text):
@@ -102,6 +113,53 @@ def public_functions(text):
         yield Function(head.start(), head.group(1), parameters, result.group(1) if result else "", clauses)
 
 
+def relations_of(files):
+    """The relations that files of specs/ define: of each name its definitions, as (parameters, cases). A case is (conditions, left
+    side, right side) of an equation."""
+    found = {}
+    for name in files:
+        with open(name, encoding="utf-8") as file:
+            text = re.sub(r"--[ -].*", "", file.read())
+        for match in re.finditer(r"^([A-Z]\w*)((?: [\w'-]+)*) =((?:.*\n)(?:[ \t]+.*\n)*)", text, flags=re.M):
+            found.setdefault(match.group(1), []).append((match.group(2).split(), list(cases(match.group(3), ()))))
+    return found
+
+
+def cases(text, conditions):
+    """The equations of a proposition, each with the conditions under which it says them."""
+    parts = split_at(bare(text), "→")
+    if len(parts) > 1:
+        yield from cases(parts[-1], conditions + tuple(bare(part) for part in parts[:-1]))
+        return
+    parts = split_at(bare(text), "×")
+    if len(parts) > 1:
+        for part in parts:
+            yield from cases(part, conditions)
+        return
+    sides = split_at(bare(text), "≡")
+    if len(sides) == 2:
+        yield conditions, bare(sides[0]), bare(sides[1])
+
+
+def determines(definition, at):
+    """Whether a relation's definition equates its parameter at this index, in every case."""
+    parameters, equations = definition
+    subject = parameters[at] if at < len(parameters) else None
+    where = {c for c, left, right in equations if subject and is_left(left, subject, []) and not speaks_of(right, subject)}
+    single = {c[0] for c in where if len(c) == 1}
+    return () in where or any("≢" in c and c.replace("≢", "≡") in single for c in single)
+
+
+def related(function, subject_of, relations):
+    """Whether a relation that the function promises equates the subject; subject_of gives it by the name of the result there."""
+    for r, name, arguments in function.relations():
+        for at, argument in enumerate(arguments):
+            if argument in (subject_of(r), f"now {subject_of(r)}") and name in relations:
+                if all(determines(definition, at) for definition in relations[name]):
+                    return True
+    return False
+
+
 def is_left(left, subject, more):
     """Whether the left side of an equation is the subject itself, or what it means."""
     forms = {subject, f"now {subject}"} | set(more)
@@ -113,7 +171,9 @@ def speaks_of(side, subject):
     return re.search(rf"(?<![\w'.]){re.escape(subject)}(?![\w'])", side) is not None
 
 
-def equates_result(function):
+def equates_result(function, relations):
+    if related(function, lambda r: r, relations):
+        return True
     for r, left, right in function.equations():
         field = [f"{r} .0"] if function.result in ONE_FIELD else []
         if r != "_" and is_left(left, r, field) and not speaks_of(right, r):
@@ -121,17 +181,17 @@ def equates_result(function):
     return False
 
 
-def equates_at_exit(function, parameter):
+def equates_at_exit(function, parameter, relations):
     exit = f"({parameter} .exit)"
-    return any(is_left(left, exit, []) and exit not in right for _, left, right in function.equations())
+    return related(function, lambda r: exit, relations) or any(is_left(left, exit, []) and exit not in right for _, left, right in function.equations())
 
 
-def faults(function):
+def faults(function, relations):
     """What is missing in a function's promise, in words."""
     if any(kind == "requires" for kind, _ in function.clauses):
         yield "has a `requires`"
-    if function.result not in ("", "()") and not equates_result(function):
+    if function.result not in ("", "()") and not equates_result(function, relations):
         yield "has no `ensures` that equates its result"
     for parameter in function.lent_for_writing():
-        if not equates_at_exit(function, parameter):
+        if not equates_at_exit(function, parameter, relations):
             yield f"has no `ensures` that equates {parameter} at exit"
