@@ -1,12 +1,27 @@
 /*
- * The proved library as a C program sees it: reading a frame's layout and asking
- * the class of a refusal number, one number a call. Link with -llogwhisker, which
- * needs nothing else.
+ * Logwhisker: both ends of DG/RDMA, a remote-write protocol over datagrams that
+ * get lost, repeated and reordered. The card is the sender, the charging host the
+ * receiver. Link with -llogwhisker, which needs nothing else.
  *
- * A lent frame is a pointer and the number of bytes there, and starts at the
- * DG/RDMA frame header. Any bytes and any length may be lent; only the pointer
- * has to be good for that many bytes, and not NULL even when there are none. The
- * frame is only read, and nothing is kept from one call to the next.
+ * Ownership. The caller owns every object and every buffer; the library allocates
+ * nothing, keeps no pointer from one call to the next and has no state of its own.
+ * An lw_host or lw_card is a plain value without pointers: it needs no closing,
+ * and a copy of it is a snapshot. Its words are the library's business.
+ *
+ * Lent buffers. A pointer comes with the number of bytes there and needs no
+ * alignment; with length 0 it may be NULL. What a call writes may not overlap
+ * anything else lent to that call. Any bytes and any length may be lent: what is
+ * not right is refused, and a refusal leaves state and buffers as they were.
+ *
+ * Threads. Calls that share no object and no buffer that one of them writes may
+ * run at the same time. Nothing else is locked or needs to be.
+ *
+ * Errors. Functions that return a refusal return 0 for success (LW_NOT_REFUSED)
+ * and otherwise its number, one of enum lw_refusal. There is no errno.
+ *
+ * Frames start at the DG/RDMA frame header: Ethernet, IP and UDP headers, and the
+ * two bytes before the frame in a UDP datagram, are taken off and put on by the
+ * caller. So are sockets and the clock that says when to send again.
  */
 #ifndef LOGWHISKER_H
 #define LOGWHISKER_H
@@ -14,44 +29,47 @@
 #include <stddef.h>
 #include <stdint.h>
 
+#define LW_VERSION "0.2.0"
+
 #ifdef __cplusplus
 extern "C" {
 #endif
 
-/* Why something was refused. Reading a layout gives 0, 1, 2, 4 or 5; the other
- * numbers come from the host, the card and the replay program. */
+/* ---- Refusals ---------------------------------------------------------- */
+
+/* Why something was refused. */
 enum lw_refusal {
     LW_NOT_REFUSED = 0,
 
     /* The frame as a whole. */
-    LW_REFUSED_FRAME_SHORT = 1,   /* no room for the 10 bytes of a frame header */
-    LW_REFUSED_FRAME_LONG = 2,    /* more than 9,000 bytes */
-    LW_REFUSED_WRONG_ID = 3,      /* for another endpoint, or not from the peer */
-    LW_REFUSED_RESERVED_FLAG = 4, /* a flag bit without a meaning is set */
-    LW_REFUSED_MESSAGE_CUT = 5,   /* a message does not fit in the frame */
-    LW_REFUSED_FRAME_AHEAD = 6,   /* too far in front of the next frame number */
+    LW_REFUSED_FRAME_TOO_SHORT = 1, /* fewer than the 10 bytes of a frame header */
+    LW_REFUSED_FRAME_TOO_LONG = 2,  /* more than 9,000 bytes */
+    LW_REFUSED_WRONG_ID = 3,        /* not to this end, or not from its peer */
+    LW_REFUSED_RESERVED_FLAG = 4,   /* a flag bit without a meaning is set */
+    LW_REFUSED_PAST_FRAME_END = 5,  /* a message header or its data passes the frame's end */
+    LW_REFUSED_FRAME_AHEAD = 6,     /* 64 to 32,767 past the next frame number */
 
     /* One message of a frame. */
-    LW_REFUSED_TRANSACTION_OUTSIDE = 7, /* its transaction is not in the window */
-    LW_REFUSED_TRANSACTION_CLOSED = 8,  /* its transaction is over already */
-    LW_REFUSED_TRANSACTION_DIFFERS = 9, /* contradicts the transaction's first message */
-    LW_REFUSED_BARE_WITH_DATA = 10,     /* data, though no data messages are counted */
-    LW_REFUSED_DATA_OUTSIDE = 11,       /* data would pass the end of memory */
-    LW_REFUSED_COMPLETION_OUTSIDE = 12, /* completion would pass the end of memory */
+    LW_REFUSED_TRANSACTION_OUTSIDE_WINDOW = 7, /* not one of the 32 from the lowest incomplete one */
+    LW_REFUSED_TRANSACTION_CLOSED = 8,         /* in the window, and complete already */
+    LW_REFUSED_TRANSACTION_DIFFERS = 9,        /* count or completion is not the open transaction's */
+    LW_REFUSED_BARE_WITH_DATA = 10,            /* count 0, and yet there is data */
+    LW_REFUSED_DATA_OUTSIDE_MEMORY = 11,       /* data would pass the end of memory */
+    LW_REFUSED_COMPLETION_OUTSIDE_MEMORY = 12, /* the completion would pass the end of memory */
 
     /* What the caller asked for. */
     LW_REFUSED_ID_ZERO = 13,  /* an end was to be opened with ID 0 */
-    LW_REFUSED_BAD_LINE = 14, /* a replay line is not whole bytes in hexadecimal */
+    LW_REFUSED_BAD_LINE = 14, /* a line of the replay is not whole bytes in hexadecimal */
 
     /* A step of the card. */
-    LW_REFUSED_TRANSACTIONS_FULL = 20, /* the window of 32 transactions is used up */
-    LW_REFUSED_SLOTS_FULL = 21,        /* all 64 slots hold unreleased frames */
-    LW_REFUSED_FRAME_FULL = 22,        /* the message passes the card's frame limit */
-    LW_REFUSED_TRANSACTION_DONE = 23,  /* no such transaction, or it has all its messages */
-    LW_REFUSED_NOTHING_TO_SEAL = 24,   /* the frame being built is empty */
-    LW_REFUSED_NOTHING_TO_SHOW = 25,   /* the frame is not held, or nothing can go out */
-    LW_REFUSED_BAD_LIMIT = 26,         /* frame limit or slot buffer of a wrong size */
-    LW_REFUSED_DATA_FOR_BARE = 27      /* data for a message that cannot carry any */
+    LW_REFUSED_TRANSACTION_WINDOW_FULL = 20, /* 32 transactions from the lowest unfinished one on */
+    LW_REFUSED_FRAME_WINDOW_FULL = 21,       /* 64 sealed frames are not released */
+    LW_REFUSED_FRAME_FULL = 22,              /* the message would end past the frame limit: seal first */
+    LW_REFUSED_NO_MESSAGE_LEFT = 23,         /* transaction never opened, or its messages all added */
+    LW_REFUSED_NOTHING_TO_SEAL = 24,         /* the frame being built has no message */
+    LW_REFUSED_NOT_HELD = 25,                /* the frame is not held, or there is nothing to choose */
+    LW_REFUSED_BAD_LIMIT_OR_SLOTS = 26,      /* limit not 34 to 9,000, or slots not 64 times as large */
+    LW_REFUSED_DATA_FOR_BARE = 27            /* data for a transaction of count 0 */
 };
 
 /* What a refusal is about. */
@@ -63,9 +81,285 @@ enum lw_class {
     LW_CLASS_CARD = 4     /* a step of the card: 20 to 27 */
 };
 
+/* The class of a refusal number, as one of enum lw_class. Any number may be asked
+ * for; those that are no refusal above are LW_CLASS_NONE. */
+uint32_t lw_refusal_class(uint32_t number);
+
+/* A few words for a refusal number, as a static string: its constant's name in
+ * small letters. "none" for 0, and "unknown" for a number that is no refusal. */
+static inline const char *lw_refusal_name(uint32_t number)
+{
+    switch (number) {
+    case LW_NOT_REFUSED: return "none";
+    case LW_REFUSED_FRAME_TOO_SHORT: return "frame too short";
+    case LW_REFUSED_FRAME_TOO_LONG: return "frame too long";
+    case LW_REFUSED_WRONG_ID: return "wrong id";
+    case LW_REFUSED_RESERVED_FLAG: return "reserved flag";
+    case LW_REFUSED_PAST_FRAME_END: return "past frame end";
+    case LW_REFUSED_FRAME_AHEAD: return "frame ahead";
+    case LW_REFUSED_TRANSACTION_OUTSIDE_WINDOW: return "transaction outside window";
+    case LW_REFUSED_TRANSACTION_CLOSED: return "transaction closed";
+    case LW_REFUSED_TRANSACTION_DIFFERS: return "transaction differs";
+    case LW_REFUSED_BARE_WITH_DATA: return "bare with data";
+    case LW_REFUSED_DATA_OUTSIDE_MEMORY: return "data outside memory";
+    case LW_REFUSED_COMPLETION_OUTSIDE_MEMORY: return "completion outside memory";
+    case LW_REFUSED_ID_ZERO: return "id zero";
+    case LW_REFUSED_BAD_LINE: return "bad line";
+    case LW_REFUSED_TRANSACTION_WINDOW_FULL: return "transaction window full";
+    case LW_REFUSED_FRAME_WINDOW_FULL: return "frame window full";
+    case LW_REFUSED_FRAME_FULL: return "frame full";
+    case LW_REFUSED_NO_MESSAGE_LEFT: return "no message left";
+    case LW_REFUSED_NOTHING_TO_SEAL: return "nothing to seal";
+    case LW_REFUSED_NOT_HELD: return "not held";
+    case LW_REFUSED_BAD_LIMIT_OR_SLOTS: return "bad limit or slots";
+    case LW_REFUSED_DATA_FOR_BARE: return "data for bare";
+    default: return "unknown";
+    }
+}
+
+/* ---- Sizes and objects ------------------------------------------------- */
+
+#define LW_FRAME_HEADER 10    /* bytes of a frame header */
+#define LW_MESSAGE_HEADER 24  /* bytes of a message header */
+#define LW_ACKNOWLEDGEMENT 10 /* bytes of an acknowledgement frame */
+#define LW_LONGEST_FRAME 9000 /* bytes of a frame at most */
+#define LW_FRAME_WINDOW 64    /* frames under way at most, and slots of a card */
+#define LW_TRANSACTION_WINDOW 32
+
+/* Bytes of the slot buffer of a card whose frame limit this is. */
+#define LW_SLOTS_SIZE(limit) ((size_t)LW_FRAME_WINDOW * (limit))
+
+#define LW_HOST_WORDS 67
+#define LW_CARD_WORDS 85
+#define LW_ANSWER_WORDS 7
+#define LW_DESCRIPTION_WORDS 167
+
+/* The charging host's end of a pair. Open it before anything else. */
+typedef struct lw_host {
+    uint64_t words[LW_HOST_WORDS];
+} lw_host;
+
+/* The card's end of a pair. Open it before anything else. */
+typedef struct lw_card {
+    uint64_t words[LW_CARD_WORDS];
+} lw_card;
+
+/* What a received frame is answered. */
+enum lw_kind {
+    LW_ACCEPTED = 1,    /* all its messages took effect */
+    LW_AGAIN = 2,       /* it took effect before: only acknowledge it */
+    LW_NO_MESSAGES = 3, /* it has none, so nothing changed */
+    LW_REFUSED = 4      /* nothing changed */
+};
+
+/* An answer. Fields that a kind does not have are 0. */
+typedef struct lw_answer {
+    uint64_t kind;      /* one of enum lw_kind */
+    uint64_t number;    /* accepted, again: the frame number */
+    uint64_t messages;  /* accepted: messages of this frame */
+    uint64_t bytes;     /* accepted: their data bytes */
+    uint64_t completed; /* accepted: transactions that this frame completed */
+    uint64_t refusal;   /* refused: one of enum lw_refusal */
+    uint64_t place;     /* refused: index of the message, from 0; 0 for refusals 1 to 6 */
+} lw_answer;
+
+/* A transaction of which some messages came and others are to come. */
+typedef struct lw_transaction {
+    uint64_t number;
+    uint64_t address;  /* where its completion will be written */
+    uint64_t value;    /* what will be written there */
+    uint64_t count;    /* messages in all */
+    uint64_t received; /* messages so far */
+} lw_transaction;
+
+/* What a host's words say. */
+typedef struct lw_description {
+    uint64_t own;
+    uint64_t peer;
+    uint64_t next;   /* lowest frame number that is not accepted */
+    uint64_t marks;  /* bit i: frame number next + i is accepted */
+    uint64_t lowest; /* lowest transaction that is not complete */
+    uint64_t closed; /* bit i: transaction lowest + i is complete */
+    uint64_t open;   /* how many transactions are open */
+    lw_transaction transactions[LW_TRANSACTION_WINDOW]; /* those, nearest the lowest first */
+} lw_description;
+
+/* A part of a buffer that the caller lent: bytes that need no copy. */
+typedef struct lw_part {
+    const uint8_t *start;
+    size_t length;
+} lw_part;
+
+/* ---- What stands behind the functions below ---------------------------- */
+
+/* The proved functions. Their pointers may not be NULL, whatever the length: call
+ * the functions below instead, which see to it. */
+uint32_t lw_raw_host_open(lw_host *host, uint16_t own, uint16_t peer);
+uint32_t lw_raw_host_receive(lw_host *host, const uint8_t *frame, size_t length, uint8_t *memory,
+                             size_t size, lw_answer *answer);
+uint32_t lw_raw_host_acknowledge(const lw_host *host, const lw_answer *answer, uint16_t number,
+                                 uint8_t acknowledgement[LW_ACKNOWLEDGEMENT]);
+void lw_raw_host_describe(const lw_host *host, lw_description *description);
+uint32_t lw_raw_card_open(lw_card *card, uint16_t own, uint16_t peer, size_t limit,
+                          const uint8_t *slots, size_t size);
+uint32_t lw_raw_card_open_transaction(lw_card *card, uint16_t count, uint32_t address,
+                                      uint32_t value, uint32_t *transaction);
+uint32_t lw_raw_card_add(lw_card *card, uint8_t *slots, size_t size, uint32_t transaction,
+                         uint32_t address, const uint8_t *data, size_t length);
+uint32_t lw_raw_card_seal(lw_card *card, const uint8_t *slots, size_t size, uint16_t *number);
+uint32_t lw_raw_card_read(lw_card *card, const uint8_t *frame, size_t length);
+uint32_t lw_raw_card_show(const lw_card *card, const uint8_t *slots, size_t size, uint16_t number,
+                          uint64_t part[2]);
+uint32_t lw_raw_card_choose(const lw_card *card, const uint8_t *slots, size_t size,
+                            const uint8_t *acknowledgement, size_t length, uint64_t part[3]);
+
+/* They are handed the structs above as words one behind another. */
+#ifdef __cplusplus
+#define LW_SAME_SIZE(type, count) static_assert(sizeof(type) == (count) * sizeof(uint64_t), "words")
+#else
+#define LW_SAME_SIZE(type, count) _Static_assert(sizeof(type) == (count) * sizeof(uint64_t), "words")
+#endif
+LW_SAME_SIZE(lw_host, LW_HOST_WORDS);
+LW_SAME_SIZE(lw_card, LW_CARD_WORDS);
+LW_SAME_SIZE(lw_answer, LW_ANSWER_WORDS);
+LW_SAME_SIZE(lw_description, LW_DESCRIPTION_WORDS);
+#undef LW_SAME_SIZE
+
+/* ---- The charging host ------------------------------------------------- */
+
+/* Opens a host of this ID for frames from this peer: nothing received, frame and
+ * transaction numbers start at 0. Returns 0, or LW_REFUSED_ID_ZERO; then the host
+ * is a fresh one with both IDs 0. */
+static inline uint32_t lw_host_open(lw_host *host, uint16_t own, uint16_t peer)
+{
+    return lw_raw_host_open(host, own, peer);
+}
+
+/* Receives a frame: judges all its messages and, if none is refused, writes their
+ * data and completions into memory, whose first byte is address 0. Lend the same
+ * memory each time. Returns the answer's kind; unless it is LW_ACCEPTED, host and
+ * memory are as they were. */
+static inline uint32_t lw_host_receive(lw_host *host, const uint8_t *frame, size_t length,
+                                       uint8_t *memory, size_t size, lw_answer *answer)
+{
+    uint8_t none = 0;
+    return lw_raw_host_receive(host, length != 0 ? frame : &none, length,
+                               size != 0 ? memory : &none, size, answer);
+}
+
+/* Writes the acknowledgement frame that an answer calls for, to be sent to the
+ * peer. Returns 1 if it is due (accepted, again) and 0 if not; then nothing is
+ * written. The number is that of the host's own next message frame, which is not
+ * used up: 0 for a host that sends no messages. */
+static inline uint32_t lw_host_acknowledge(const lw_host *host, const lw_answer *answer,
+                                           uint16_t number,
+                                           uint8_t acknowledgement[LW_ACKNOWLEDGEMENT])
+{
+    return lw_raw_host_acknowledge(host, answer, number, acknowledgement);
+}
+
+/* Tells what the host's state is: IDs, both windows and the open transactions. */
+static inline void lw_host_describe(const lw_host *host, lw_description *description)
+{
+    lw_raw_host_describe(host, description);
+}
+
+/* ---- The card ---------------------------------------------------------- */
+
+/* Opens a card of this ID towards this peer, with frames of at most limit bytes,
+ * 34 to 9,000, built and kept in a slot buffer of LW_SLOTS_SIZE(limit) bytes. Lend
+ * the same slots, unchanged, to every later call. Returns 0, LW_REFUSED_ID_ZERO or
+ * LW_REFUSED_BAD_LIMIT_OR_SLOTS; where refused, the card is a fresh one with both
+ * IDs and the limit 0. Nothing is written to the slots. */
+static inline uint32_t lw_card_open(lw_card *card, uint16_t own, uint16_t peer, size_t limit,
+                                    const uint8_t *slots, size_t size)
+{
+    const uint8_t none = 0;
+    return lw_raw_card_open(card, own, peer, limit, size != 0 ? slots : &none, size);
+}
+
+/* Opens a transaction of count data messages, or of one bare message if count is
+ * 0, whose completion writes value (4 bytes, little endian) at address. Returns 0
+ * and its number in *transaction, or LW_REFUSED_TRANSACTION_WINDOW_FULL, which
+ * leaves *transaction as it was: read acknowledgements first. */
+static inline uint32_t lw_card_open_transaction(lw_card *card, uint16_t count, uint32_t address,
+                                                uint32_t value, uint32_t *transaction)
+{
+    return lw_raw_card_open_transaction(card, count, address, value, transaction);
+}
+
+/* Adds one message of a transaction, to write data at address, to the frame being
+ * built. Returns 0 or the first that applies of LW_REFUSED_BAD_LIMIT_OR_SLOTS,
+ * _NO_MESSAGE_LEFT, _DATA_FOR_BARE, _FRAME_WINDOW_FULL and _FRAME_FULL; then
+ * neither card nor slots change. The data is copied into the slots. */
+static inline uint32_t lw_card_add(lw_card *card, uint8_t *slots, size_t size,
+                                   uint32_t transaction, uint32_t address, const uint8_t *data,
+                                   size_t length)
+{
+    uint8_t none = 0;
+    return lw_raw_card_add(card, size != 0 ? slots : &none, size, transaction, address,
+                           length != 0 ? data : &none, length);
+}
+
+/* Seals the frame being built: it is held until it is acknowledged. Returns 0 and
+ * its number in *number, or LW_REFUSED_BAD_LIMIT_OR_SLOTS or
+ * LW_REFUSED_NOTHING_TO_SEAL, which leave *number as it was. */
+static inline uint32_t lw_card_seal(lw_card *card, const uint8_t *slots, size_t size,
+                                    uint16_t *number)
+{
+    const uint8_t none = 0;
+    return lw_raw_card_seal(card, size != 0 ? slots : &none, size, number);
+}
+
+/* Reads the acknowledgements of an arriving frame; its messages are not looked at
+ * further than that they fit. Returns 0 or a refusal of 1 to 5. */
+static inline uint32_t lw_card_read(lw_card *card, const uint8_t *frame, size_t length)
+{
+    const uint8_t none = 0;
+    return lw_raw_card_read(card, length != 0 ? frame : &none, length);
+}
+
+/* Shows a held frame, to be sent (again). Returns 0 and the frame in *part, as a
+ * part of the slots, which is good until the next call that changes card or slots;
+ * or LW_REFUSED_BAD_LIMIT_OR_SLOTS or LW_REFUSED_NOT_HELD, and an empty part with
+ * start NULL. */
+static inline uint32_t lw_card_show(const lw_card *card, const uint8_t *slots, size_t size,
+                                    uint16_t number, lw_part *part)
+{
+    const uint8_t none = 0;
+    uint64_t place[2] = {0, 0};
+    const uint32_t refusal = lw_raw_card_show(card, size != 0 ? slots : &none, size, number, place);
+
+    part->start = refusal == LW_NOT_REFUSED ? slots + place[0] : NULL;
+    part->length = (size_t)place[1];
+    return refusal;
+}
+
+/* Chooses what goes out next: the lent acknowledgement if it has exactly the
+ * LW_ACKNOWLEDGEMENT bytes of one, otherwise the oldest held frame. Returns 0 and
+ * it in *part, as a part of its own buffer; or LW_REFUSED_BAD_LIMIT_OR_SLOTS or
+ * LW_REFUSED_NOT_HELD, and an empty part with start NULL. */
+static inline uint32_t lw_card_choose(const lw_card *card, const uint8_t *slots, size_t size,
+                                      const uint8_t *acknowledgement, size_t length, lw_part *part)
+{
+    const uint8_t none = 0;
+    uint64_t place[3] = {0, 0, 0};
+    const uint32_t refusal = lw_raw_card_choose(card, size != 0 ? slots : &none, size,
+                                                length != 0 ? acknowledgement : &none, length, place);
+
+    part->start = NULL;
+    if (refusal == LW_NOT_REFUSED)
+        part->start = (place[0] == 1 ? acknowledgement : slots) + place[1];
+    part->length = (size_t)place[2];
+    return refusal;
+}
+
+/* ---- The layout of a frame --------------------------------------------- */
+
 /* Whether the frame's layout is refused, and why: LW_NOT_REFUSED, or the first of
- * LW_REFUSED_FRAME_SHORT, LW_REFUSED_FRAME_LONG, LW_REFUSED_RESERVED_FLAG and
- * LW_REFUSED_MESSAGE_CUT that applies. No ID is known here, so none is wrong. */
+ * LW_REFUSED_FRAME_TOO_SHORT, LW_REFUSED_FRAME_TOO_LONG, LW_REFUSED_RESERVED_FLAG
+ * and LW_REFUSED_PAST_FRAME_END that applies. No ID is known here, so none is
+ * wrong. */
 uint32_t lw_layout_refusal(const uint8_t *frame, size_t length);
 
 /* The fields of the frame header, each as it stands there, or 0 if the layout is
@@ -99,10 +393,6 @@ uint32_t lw_message_count(const uint8_t *frame, size_t length);
 /* Sum of the messages' data lengths, 0 to 8,966: headers, gaps and what stands
  * behind the last message do not count; 0 if refused, and 0 for a clear flag. */
 uint32_t lw_data_bytes(const uint8_t *frame, size_t length);
-
-/* The class of a refusal number, as one of enum lw_class. Any number may be asked
- * for; those that are no refusal above are LW_CLASS_NONE. */
-uint32_t lw_refusal_class(uint32_t number);
 
 #ifdef __cplusplus
 }
