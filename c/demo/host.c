@@ -1,0 +1,112 @@
+/*
+ * The charging host of the demonstration: receives datagrams on a UDP port, hands
+ * each frame to the library and sends back the acknowledgement that the answer
+ * calls for. Prints `port NUMBER` at the start and, when it is told to end by
+ * SIGTERM, its bill and how many frames got which answer.
+ */
+#define _POSIX_C_SOURCE 200809L
+
+#include "common.h"
+
+#include <inttypes.h>
+#include <stdio.h>
+#include <stdlib.h>
+#include <sys/socket.h>
+
+/* Nobody sends for this long: the others must have gone. */
+enum { PATIENCE = 20000 };
+
+struct receiver {
+    lw_host host;
+    uint8_t memory[MEMORY_SIZE];
+    int socket;
+    struct bill bill;
+    uint64_t accepted;
+    uint64_t again;
+    uint64_t no_messages;
+    uint64_t refused;
+};
+
+static void count_answer(struct receiver *receiver, const lw_answer *answer)
+{
+    switch (answer->kind) {
+    case LW_ACCEPTED:
+        receiver->accepted++;
+        receiver->bill.messages += answer->messages;
+        receiver->bill.bytes += answer->bytes;
+        receiver->bill.transactions += answer->completed;
+        break;
+    case LW_AGAIN:
+        receiver->again++;
+        break;
+    case LW_NO_MESSAGES:
+        receiver->no_messages++;
+        break;
+    default:
+        receiver->refused++;
+        fprintf(stderr, "host: refused with %" PRIu64 ", %s\n", answer->refusal,
+                lw_refusal_name((uint32_t)answer->refusal));
+    }
+}
+
+static void receive_frame(struct receiver *receiver, const uint8_t *frame, size_t length,
+                          const struct sockaddr_in *from)
+{
+    uint8_t acknowledgement[LW_ACKNOWLEDGEMENT];
+    lw_answer answer;
+
+    lw_host_receive(&receiver->host, frame, length, receiver->memory, sizeof receiver->memory,
+                    &answer);
+    count_answer(receiver, &answer);
+    if (lw_host_acknowledge(&receiver->host, &answer, 0, acknowledgement) == 1)
+        send_frame(receiver->socket, from, acknowledgement, sizeof acknowledgement);
+}
+
+/* Takes all datagrams that have arrived; false if there was none. */
+static bool receive_all(struct receiver *receiver)
+{
+    uint8_t datagram[LONGEST_DATAGRAM];
+    struct sockaddr_in from;
+    bool any = false;
+
+    for (;;) {
+        socklen_t size = sizeof from;
+        const ssize_t length = recvfrom(receiver->socket, datagram, sizeof datagram, 0,
+                                        (struct sockaddr *)&from, &size);
+        if (length < 0)
+            return any;
+        any = true;
+        if (length >= PREFIX)
+            receive_frame(receiver, datagram + PREFIX, (size_t)length - PREFIX, &from);
+    }
+}
+
+static void report(const struct receiver *receiver)
+{
+    print_bill(&receiver->bill, receiver->memory);
+    printf("accepted %" PRIu64 "\nagain %" PRIu64 "\nno-messages %" PRIu64 "\nrefused %" PRIu64 "\n",
+           receiver->accepted, receiver->again, receiver->no_messages, receiver->refused);
+}
+
+int main(int argc, char **argv)
+{
+    static struct receiver receiver;
+    uint16_t port;
+
+    read_options(argc, argv, NULL, 0);
+    end_on_signals();
+    if (lw_host_open(&receiver.host, HOST_ID, CARD_ID) != LW_NOT_REFUSED)
+        return EXIT_FAILURE;
+    receiver.socket = open_socket(&port);
+    printf("port %u\n", port);
+    fflush(stdout);
+
+    uint64_t heard = now();
+    while (!ended && now() - heard < PATIENCE) {
+        wait_for(&receiver.socket, 1, 100);
+        if (receive_all(&receiver))
+            heard = now();
+    }
+    report(&receiver);
+    return ended && fflush(stdout) == 0 ? EXIT_SUCCESS : EXIT_FAILURE;
+}
