@@ -3,13 +3,25 @@ FRAMES ?= crates/replay/stdin
 PREFIX ?= /usr/local
 DESTDIR ?=
 SEED ?= 2
+# The header says which version this is.
+VERSION := $(shell sed -n 's/^.define LW_VERSION "\(.*\)"/\1/p' include/logwhisker.h)
 
 # What the library for C is made from: its crate, those that crates.txt lists behind it, and octets, which these name.
 CAPI := target/staticlib/libcapi.a
 CAPI_CRATES := capi octets $(shell sed -n 's/^capi://p' crates.txt)
 CAPI_SOURCES := $(wildcard $(foreach crate,$(CAPI_CRATES),crates/$(crate)/src/*.rt crates/$(crate)/specs/*.antt))
 
-.PHONY: test check replay bench soak install pictures clean
+.PHONY: test check replay calls demo bench soak install pictures clean
+
+# The C programs are built as users build theirs: against an installed copy, here one below target/.
+INSTALLED := target/installed
+INSTALLED_LIB := $(INSTALLED)/lib/liblogwhisker.a
+C_STRICT := -std=c11 -O2 -Wall -Wextra -Wpedantic -Wconversion -Werror
+C_BUILD = $(CC) $(C_STRICT) $(CFLAGS) -I$(INSTALLED)/include
+C_LINK = -L$(INSTALLED)/lib -llogwhisker $(LDLIBS)
+# Options of the demonstration: frames=N seed=N loss=N repeat=N reorder=N seconds=N, in per cent where it is a share.
+DEMO ?=
+DEMO_PROGRAMS := target/demo/card target/demo/relay target/demo/host
 
 test:
 	.ci/run
@@ -24,6 +36,21 @@ replay:
 	@[ -x target/bin/replay ] || echo 'make replay: proves the replay first, which takes a minute or two' >&2
 	@rt check replay > target/replay.log 2>&1 || { cat target/replay.log; exit 1; }
 	@target/bin/replay < $(FRAMES)
+
+# Builds target/bin/calls, which drives both ends by a script of calls, one a line.
+calls: target/bin/calls
+
+target/bin/calls: c/calls.c $(INSTALLED_LIB)
+	@mkdir -p $(@D)
+	$(C_BUILD) -o $@ $< $(C_LINK)
+
+# Both ends as processes that talk by UDP on 127.0.0.1, with a relay between them that loses, repeats and reorders: c/demo.
+demo: $(DEMO_PROGRAMS)
+	@c/demo/run target/demo $(DEMO)
+
+$(DEMO_PROGRAMS): target/demo/%: c/demo/%.c c/demo/common.c c/demo/common.h $(INSTALLED_LIB)
+	@mkdir -p $(@D)
+	$(C_BUILD) -o $@ $< c/demo/common.c $(C_LINK)
 
 # Times the proved host and replay against plain Rust ones on this machine: docs/PERFORMANCE.md.
 bench:
@@ -50,8 +77,12 @@ install: $(CAPI)
 	install -d '$(DESTDIR)$(PREFIX)/include' '$(DESTDIR)$(PREFIX)/lib/pkgconfig'
 	install -m 644 include/logwhisker.h '$(DESTDIR)$(PREFIX)/include/logwhisker.h'
 	install -m 644 $(CAPI) '$(DESTDIR)$(PREFIX)/lib/liblogwhisker.a'
-	{ echo 'prefix=$(PREFIX)'; cat include/logwhisker.pc.in; } > '$(DESTDIR)$(PREFIX)/lib/pkgconfig/logwhisker.pc'
+	{ echo 'prefix=$(PREFIX)'; sed 's/@VERSION@/$(VERSION)/' include/logwhisker.pc.in; } > '$(DESTDIR)$(PREFIX)/lib/pkgconfig/logwhisker.pc'
 	chmod 644 '$(DESTDIR)$(PREFIX)/lib/pkgconfig/logwhisker.pc'
+
+$(INSTALLED_LIB): $(CAPI) include/logwhisker.h include/logwhisker.pc.in
+	@$(MAKE) --no-print-directory install PREFIX='$(CURDIR)/$(INSTALLED)' DESTDIR=
+	@touch $@
 
 # An archive that comes out the same may keep its date, and would be asked for again at every install.
 $(CAPI): $(CAPI_SOURCES)
