@@ -4,13 +4,14 @@
  * checks every answer. The frames are laid out here byte by byte and by offset, so
  * that nothing but the header file is shared with the library.
  *
- * The last line is 'N passed, M failed'; the exit status is 1 if a check failed.
+ * Both ends are tested by ends.c. The exit status is 1 if a check failed.
  */
 #define _DEFAULT_SOURCE /* for MAP_ANONYMOUS and MAP_NORESERVE */
 
-#include "logwhisker.h"
+#include <logwhisker.h>
 
-#include <inttypes.h>
+#include "check.h"
+
 #include <stdio.h>
 #include <string.h>
 #include <sys/mman.h>
@@ -29,9 +30,7 @@ enum {
     FLAGS = 9,
     /* Offsets in a message header. */
     DATA_LENGTH = 20,
-    TRAILING = 23,
-    /* Failed checks of one group that are shown. */
-    SHOWN = 20
+    TRAILING = 23
 };
 
 /* What the nine layout calls answer for one frame. */
@@ -58,33 +57,6 @@ static const uint8_t whole_case[38] = {
 static const struct layout whole_layout = {
     .destination = 1, .source = 2, .flags = 1, .messages = 1, .data_bytes = 4
 };
-
-static unsigned long passed;
-static unsigned long failed;
-
-/* Numbers when the current group of checks began. */
-static unsigned long passed_before;
-static unsigned long failed_before;
-
-static void check(const char *what, unsigned long at, uint32_t got, uint32_t want)
-{
-    if (got == want) {
-        passed++;
-        return;
-    }
-    failed++;
-    /* The first few of a group say what is wrong; the rest are only counted. */
-    if (failed - failed_before <= SHOWN)
-        fprintf(stderr, "failed: %s at %lu: got %" PRIu32 ", want %" PRIu32 "\n", what, at, got,
-                want);
-}
-
-static void end_group(const char *name)
-{
-    printf("%s: %lu right, %lu wrong\n", name, passed - passed_before, failed - failed_before);
-    passed_before = passed;
-    failed_before = failed;
-}
 
 /* `at` tells the checks of one loop apart. */
 static void check_layout(unsigned long at, const uint8_t *frame, size_t length,
@@ -119,13 +91,13 @@ static void check_whole_case(void)
     check_layout(0, whole_case, sizeof whole_case, whole_layout);
     end_group("whole case");
 
-    check("first 37 bytes", 37, lw_layout_refusal(whole_case, 37), LW_REFUSED_MESSAGE_CUT);
+    check("first 37 bytes", 37, lw_layout_refusal(whole_case, 37), LW_REFUSED_PAST_FRAME_END);
     for (size_t length = 0; length <= sizeof whole_case; length++) {
         struct layout want = whole_layout;
         if (length < FRAME_HEADER)
-            want = refused(LW_REFUSED_FRAME_SHORT);
+            want = refused(LW_REFUSED_FRAME_TOO_SHORT);
         else if (length < sizeof whole_case)
-            want = refused(LW_REFUSED_MESSAGE_CUT);
+            want = refused(LW_REFUSED_PAST_FRAME_END);
         check_layout(length, whole_case, length, want);
     }
     end_group("every truncation of the whole case");
@@ -231,7 +203,7 @@ static void check_clear_flag(void)
     frame[FLAGS] = 0;
     for (size_t length = FRAME_HEADER; length <= LONGEST; length++)
         check_layout(length, frame, length, want);
-    check_layout(sizeof frame, frame, sizeof frame, refused(LW_REFUSED_FRAME_LONG));
+    check_layout(sizeof frame, frame, sizeof frame, refused(LW_REFUSED_FRAME_TOO_LONG));
     end_group("a clear flag with any bytes behind");
 }
 
@@ -259,7 +231,7 @@ static void check_two_messages(void)
     lay_out_two(frame);
     check_layout(0, frame, sizeof frame, both);
     for (size_t length = FRAME_HEADER; length < sizeof frame; length++)
-        check_layout(length, frame, length, refused(LW_REFUSED_MESSAGE_CUT));
+        check_layout(length, frame, length, refused(LW_REFUSED_PAST_FRAME_END));
     end_group("two messages, second header at 42");
 
     /* Without data in the second message the frame is 66 bytes long, not 65. */
@@ -267,7 +239,7 @@ static void check_two_messages(void)
     empty_second.data_bytes = 1;
     put16(frame + SECOND + DATA_LENGTH, 0);
     check_layout(66, frame, 66, empty_second);
-    check_layout(65, frame, 65, refused(LW_REFUSED_MESSAGE_CUT));
+    check_layout(65, frame, 65, refused(LW_REFUSED_PAST_FRAME_END));
     end_group("second message without data at 42");
 
     lay_out_two(frame);
@@ -291,7 +263,7 @@ static void check_two_messages(void)
     }
     frame[FIRST + TRAILING] = 1;
     for (unsigned trailing = 0; trailing <= 255; trailing++) {
-        struct layout want = trailing == 1 ? refused(LW_REFUSED_MESSAGE_CUT) : both;
+        struct layout want = trailing == 1 ? refused(LW_REFUSED_PAST_FRAME_END) : both;
         frame[SECOND + TRAILING] = (uint8_t)trailing;
         check_layout(trailing, frame, sizeof frame, want);
     }
@@ -306,7 +278,7 @@ static void check_junk_behind(void)
     memcpy(frame, whole_case, sizeof whole_case);
     for (size_t length = sizeof whole_case; length <= LONGEST; length++)
         check_layout(length, frame, length, whole_layout);
-    check_layout(sizeof frame, frame, sizeof frame, refused(LW_REFUSED_FRAME_LONG));
+    check_layout(sizeof frame, frame, sizeof frame, refused(LW_REFUSED_FRAME_TOO_LONG));
     end_group("junk behind the last message");
 }
 
@@ -319,12 +291,12 @@ static void check_longest(void)
     frame[FLAGS] = 1;
     put16(frame + FIRST + DATA_LENGTH, most);
     check_layout(0, frame, LONGEST, want);
-    check_layout(1, frame, LONGEST - 1, refused(LW_REFUSED_MESSAGE_CUT));
-    check_layout(2, frame, LONGEST + 1, refused(LW_REFUSED_FRAME_LONG));
+    check_layout(1, frame, LONGEST - 1, refused(LW_REFUSED_PAST_FRAME_END));
+    check_layout(2, frame, LONGEST + 1, refused(LW_REFUSED_FRAME_TOO_LONG));
     put16(frame + FIRST + DATA_LENGTH, most + 1);
-    check_layout(3, frame, LONGEST, refused(LW_REFUSED_MESSAGE_CUT));
+    check_layout(3, frame, LONGEST, refused(LW_REFUSED_PAST_FRAME_END));
     put16(frame + FIRST + DATA_LENGTH, 65535);
-    check_layout(4, frame, LONGEST, refused(LW_REFUSED_MESSAGE_CUT));
+    check_layout(4, frame, LONGEST, refused(LW_REFUSED_PAST_FRAME_END));
     end_group("9,000 and 9,001 bytes");
 
     memset(frame, 0, sizeof frame);
@@ -334,13 +306,19 @@ static void check_longest(void)
         want.messages = messages;
         want.data_bytes = 0;
         check_layout(messages, frame, end, want);
-        check_layout(messages, frame, end - 1, refused(LW_REFUSED_MESSAGE_CUT));
+        check_layout(messages, frame, end - 1, refused(LW_REFUSED_PAST_FRAME_END));
         frame[end - MESSAGE_HEADER + TRAILING] = 1;
-        check_layout(messages, frame, end, refused(LW_REFUSED_MESSAGE_CUT));
+        check_layout(messages, frame, end, refused(LW_REFUSED_PAST_FRAME_END));
     }
     /* The 375th is announced, and 9,000 bytes have no room for it. */
-    check_layout(375, frame, LONGEST, refused(LW_REFUSED_MESSAGE_CUT));
+    check_layout(375, frame, LONGEST, refused(LW_REFUSED_PAST_FRAME_END));
     end_group("1 to 374 messages");
+}
+
+static void check_null(void)
+{
+    check_layout(0, NULL, 0, refused(LW_REFUSED_FRAME_TOO_SHORT));
+    end_group("no bytes at NULL");
 }
 
 static void check_order(void)
@@ -349,11 +327,11 @@ static void check_order(void)
 
     memset(frame, 0xff, sizeof frame);
     for (size_t length = 0; length < FRAME_HEADER; length++)
-        check_layout(length, frame, length, refused(LW_REFUSED_FRAME_SHORT));
-    check_layout(LONGEST + 1, frame, LONGEST + 1, refused(LW_REFUSED_FRAME_LONG));
+        check_layout(length, frame, length, refused(LW_REFUSED_FRAME_TOO_SHORT));
+    check_layout(LONGEST + 1, frame, LONGEST + 1, refused(LW_REFUSED_FRAME_TOO_LONG));
     check_layout(LONGEST, frame, LONGEST, refused(LW_REFUSED_RESERVED_FLAG));
     frame[FLAGS] = 1;
-    check_layout(LONGEST, frame, LONGEST, refused(LW_REFUSED_MESSAGE_CUT));
+    check_layout(LONGEST, frame, LONGEST, refused(LW_REFUSED_PAST_FRAME_END));
     end_group("order of the refusals");
 }
 
@@ -376,9 +354,9 @@ static void check_only_lent_bytes(void)
     for (size_t length = 0; length <= sizeof whole_case; length++) {
         struct layout want = whole_layout;
         if (length < FRAME_HEADER)
-            want = refused(LW_REFUSED_FRAME_SHORT);
+            want = refused(LW_REFUSED_FRAME_TOO_SHORT);
         else if (length < sizeof whole_case)
-            want = refused(LW_REFUSED_MESSAGE_CUT);
+            want = refused(LW_REFUSED_PAST_FRAME_END);
         memcpy(end - length, whole_case, length);
         check_layout(length, end - length, length, want);
         check("frame left as it was", length,
@@ -389,7 +367,7 @@ static void check_only_lent_bytes(void)
     lay_out_two(two);
     for (size_t length = FRAME_HEADER; length < sizeof two; length++) {
         memcpy(end - length, two, length);
-        check_layout(length, end - length, length, refused(LW_REFUSED_MESSAGE_CUT));
+        check_layout(length, end - length, length, refused(LW_REFUSED_PAST_FRAME_END));
     }
 
     /* A message is announced just behind the end. */
@@ -400,11 +378,11 @@ static void check_only_lent_bytes(void)
         frame[FLAGS] = 1;
         put16(frame + FIRST + DATA_LENGTH, data);
         frame[FIRST + TRAILING] = 1;
-        check_layout(data, frame, length, refused(LW_REFUSED_MESSAGE_CUT));
+        check_layout(data, frame, length, refused(LW_REFUSED_PAST_FRAME_END));
         /* And one whose data passes it by one byte. */
         frame[FIRST + TRAILING] = 0;
         put16(frame + FIRST + DATA_LENGTH, data + 1);
-        check_layout(data, frame, length, refused(LW_REFUSED_MESSAGE_CUT));
+        check_layout(data, frame, length, refused(LW_REFUSED_PAST_FRAME_END));
     }
 
     munmap(memory, room + page);
@@ -423,8 +401,8 @@ static void check_huge_length(void)
     if (memory == MAP_FAILED) {
         check("memory of more than 4 GiB", 0, 0, 1);
     } else {
-        check_layout(0, memory, length, refused(LW_REFUSED_FRAME_LONG));
-        check_layout(1, memory, length - sizeof whole_case, refused(LW_REFUSED_FRAME_LONG));
+        check_layout(0, memory, length, refused(LW_REFUSED_FRAME_TOO_LONG));
+        check_layout(1, memory, length - sizeof whole_case, refused(LW_REFUSED_FRAME_TOO_LONG));
         munmap(memory, length);
     }
     end_group("a length of more than 32 bits");
@@ -434,30 +412,30 @@ static void check_huge_length(void)
 static uint32_t class_of(uint32_t number)
 {
     switch (number) {
-    case LW_REFUSED_FRAME_SHORT:
-    case LW_REFUSED_FRAME_LONG:
+    case LW_REFUSED_FRAME_TOO_SHORT:
+    case LW_REFUSED_FRAME_TOO_LONG:
     case LW_REFUSED_WRONG_ID:
     case LW_REFUSED_RESERVED_FLAG:
-    case LW_REFUSED_MESSAGE_CUT:
+    case LW_REFUSED_PAST_FRAME_END:
     case LW_REFUSED_FRAME_AHEAD:
         return LW_CLASS_WIRE;
-    case LW_REFUSED_TRANSACTION_OUTSIDE:
+    case LW_REFUSED_TRANSACTION_OUTSIDE_WINDOW:
     case LW_REFUSED_TRANSACTION_CLOSED:
     case LW_REFUSED_TRANSACTION_DIFFERS:
     case LW_REFUSED_BARE_WITH_DATA:
-    case LW_REFUSED_DATA_OUTSIDE:
-    case LW_REFUSED_COMPLETION_OUTSIDE:
+    case LW_REFUSED_DATA_OUTSIDE_MEMORY:
+    case LW_REFUSED_COMPLETION_OUTSIDE_MEMORY:
         return LW_CLASS_MESSAGE;
     case LW_REFUSED_ID_ZERO:
     case LW_REFUSED_BAD_LINE:
         return LW_CLASS_CALLER;
-    case LW_REFUSED_TRANSACTIONS_FULL:
-    case LW_REFUSED_SLOTS_FULL:
+    case LW_REFUSED_TRANSACTION_WINDOW_FULL:
+    case LW_REFUSED_FRAME_WINDOW_FULL:
     case LW_REFUSED_FRAME_FULL:
-    case LW_REFUSED_TRANSACTION_DONE:
+    case LW_REFUSED_NO_MESSAGE_LEFT:
     case LW_REFUSED_NOTHING_TO_SEAL:
-    case LW_REFUSED_NOTHING_TO_SHOW:
-    case LW_REFUSED_BAD_LIMIT:
+    case LW_REFUSED_NOT_HELD:
+    case LW_REFUSED_BAD_LIMIT_OR_SLOTS:
     case LW_REFUSED_DATA_FOR_BARE:
         return LW_CLASS_CARD;
     default:
@@ -501,11 +479,11 @@ int main(void)
     check_two_messages();
     check_junk_behind();
     check_longest();
+    check_null();
     check_order();
     check_only_lent_bytes();
     check_huge_length();
     check_classes();
 
-    printf("%lu passed, %lu failed\n", passed, failed);
-    return failed == 0 ? 0 : 1;
+    return end_checks();
 }

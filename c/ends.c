@@ -1,0 +1,912 @@
+/*
+ * Calls every function of both ends as a C program does, and checks answers,
+ * refusals, memory, slots and what a refused call leaves. Frames are laid out here
+ * byte by byte, so that nothing but the header file is shared with the library.
+ * The exit status is 1 if a check failed.
+ */
+#define _DEFAULT_SOURCE /* for MAP_ANONYMOUS */
+
+#include <logwhisker.h>
+
+#include "check.h"
+
+#include <ctype.h>
+#include <stdlib.h>
+#include <string.h>
+#include <sys/mman.h>
+#include <unistd.h>
+
+enum { OWN = 1, PEER = 2, MEMORY = 68, LIMIT = 100, SLOTS = LW_FRAME_WINDOW * LIMIT };
+
+/* One message of four bytes from 2 to 1, and its acknowledgement. */
+static const uint8_t whole_case[38] = {
+    0x01, 0x00, 0x02, 0x00, 0x00, 0x00, 0x00, 0x00, 0x00, 0x01, /* frame header */
+    0x00, 0x00, 0x00, 0x00, 0x40, 0x00, 0x00, 0x00, 0x44, 0x33, 0x22, 0x11,
+    0x01, 0x00, 0x00, 0x00, 0x00, 0x00, 0x00, 0x00, 0x04, 0x00, 0x00, 0x00,
+    0x0a, 0x0b, 0x0c, 0x0d /* data */
+};
+static const uint8_t whole_acknowledgement[10] = {0x02, 0x00, 0x01, 0x00, 0x00,
+                                                  0x00, 0x00, 0x00, 0x01, 0x00};
+
+/* ---- Frames ------------------------------------------------------------ */
+
+struct message {
+    uint32_t transaction;
+    uint32_t completion;
+    uint32_t value;
+    uint16_t count;
+    uint32_t address;
+    uint16_t length;
+};
+
+static void put16(uint8_t *at, uint32_t value)
+{
+    at[0] = (uint8_t)(value & 0xff);
+    at[1] = (uint8_t)(value >> 8 & 0xff);
+}
+
+static void put32(uint8_t *at, uint32_t value)
+{
+    put16(at, value & 0xffff);
+    put16(at + 2, value >> 16);
+}
+
+/* Lays out a frame from the peer, whose data bytes are all 0xdd. Gives its length. */
+static size_t lay_out(uint8_t *frame, uint32_t number, const struct message *messages, size_t count)
+{
+    size_t end = LW_FRAME_HEADER;
+
+    memset(frame, 0, LW_FRAME_HEADER);
+    put16(frame, OWN);
+    put16(frame + 2, PEER);
+    put16(frame + 4, number);
+    frame[9] = count > 0;
+    for (size_t i = 0; i < count; i++) {
+        const size_t start = LW_FRAME_HEADER + (end - LW_FRAME_HEADER + 7) / 8 * 8;
+        uint8_t *header = frame + start;
+        memset(frame + end, 0, start - end + LW_MESSAGE_HEADER);
+        put32(header, messages[i].transaction);
+        put32(header + 4, messages[i].completion);
+        put32(header + 8, messages[i].value);
+        put16(header + 12, messages[i].count);
+        put32(header + 16, messages[i].address);
+        put16(header + 20, messages[i].length);
+        header[23] = i + 1 < count;
+        memset(header + LW_MESSAGE_HEADER, 0xdd, messages[i].length);
+        end = start + LW_MESSAGE_HEADER + messages[i].length;
+    }
+    return end;
+}
+
+/* A bare message: it completes its transaction at once. */
+static struct message bare(uint32_t transaction)
+{
+    const struct message message = {.transaction = transaction};
+    return message;
+}
+
+/* ---- The host ---------------------------------------------------------- */
+
+/* A host with its memory. */
+struct receiver {
+    lw_host host;
+    uint8_t memory[MEMORY];
+};
+
+static struct receiver fresh_receiver(void)
+{
+    struct receiver receiver;
+
+    memset(&receiver, 0, sizeof receiver);
+    check("opening a host", 0, lw_host_open(&receiver.host, OWN, PEER), LW_NOT_REFUSED);
+    return receiver;
+}
+
+static void check_answer(unsigned long at, const lw_answer *got, lw_answer want)
+{
+    check("kind", at, got->kind, want.kind);
+    check("number", at, got->number, want.number);
+    check("messages", at, got->messages, want.messages);
+    check("bytes", at, got->bytes, want.bytes);
+    check("completed", at, got->completed, want.completed);
+    check("refusal", at, got->refusal, want.refusal);
+    check("place", at, got->place, want.place);
+}
+
+/* Receives a frame and checks the answer, of which what is not given is 0. Unless it
+ * is accepted, host and memory have to stay as they are. */
+static void check_receive(unsigned long at, struct receiver *receiver, const uint8_t *frame,
+                          size_t length, lw_answer want)
+{
+    const struct receiver before = *receiver;
+    lw_answer answer;
+
+    memset(&answer, 0xff, sizeof answer);
+    const uint32_t kind = lw_host_receive(&receiver->host, frame, length, receiver->memory,
+                                          sizeof receiver->memory, &answer);
+    check("returned kind", at, kind, want.kind);
+    check_answer(at, &answer, want);
+    if (want.kind != LW_ACCEPTED) {
+        check_bytes("host as it was", at, &before.host, &receiver->host, sizeof before.host);
+        check_bytes("memory as it was", at, before.memory, receiver->memory, sizeof before.memory);
+    }
+}
+
+static lw_answer accepted(uint64_t number, uint64_t messages, uint64_t bytes, uint64_t completed)
+{
+    const lw_answer answer = {LW_ACCEPTED, number, messages, bytes, completed, 0, 0};
+    return answer;
+}
+
+static lw_answer again(uint64_t number)
+{
+    const lw_answer answer = {LW_AGAIN, number, 0, 0, 0, 0, 0};
+    return answer;
+}
+
+static lw_answer refused(uint64_t refusal, uint64_t place)
+{
+    const lw_answer answer = {LW_REFUSED, 0, 0, 0, 0, refusal, place};
+    return answer;
+}
+
+/* Receives a frame of these messages. */
+static void check_frame(unsigned long at, struct receiver *receiver, uint32_t number,
+                        const struct message *messages, size_t count, lw_answer want)
+{
+    uint8_t frame[1000];
+    const size_t length = lay_out(frame, number, messages, count);
+
+    check_receive(at, receiver, frame, length, want);
+}
+
+static void check_whole_case_at_host(void)
+{
+    struct receiver receiver = fresh_receiver();
+    uint8_t want[MEMORY] = {0x0a, 0x0b, 0x0c, 0x0d};
+    uint8_t acknowledgement[LW_ACKNOWLEDGEMENT];
+    lw_answer answer;
+
+    put32(want + 64, 0x11223344);
+    check_receive(0, &receiver, whole_case, sizeof whole_case, accepted(0, 1, 4, 1));
+    check_bytes("memory", 0, receiver.memory, want, sizeof want);
+    check_receive(1, &receiver, whole_case, sizeof whole_case, again(0));
+
+    for (unsigned kind = LW_ACCEPTED; kind <= LW_AGAIN; kind++) {
+        answer = kind == LW_ACCEPTED ? accepted(0, 1, 4, 1) : again(0);
+        check("acknowledgement due", kind,
+              lw_host_acknowledge(&receiver.host, &answer, 0, acknowledgement), 1);
+        check_bytes("acknowledgement", kind, acknowledgement, whole_acknowledgement,
+                    sizeof acknowledgement);
+    }
+    end_group("whole case at the host");
+}
+
+static void check_acknowledgements(void)
+{
+    const struct receiver receiver = fresh_receiver();
+    uint8_t acknowledgement[LW_ACKNOWLEDGEMENT];
+    const uint8_t want[LW_ACKNOWLEDGEMENT] = {PEER, 0, OWN, 0, 0x34, 0x12, 0xfe, 0xff, 1, 0};
+    const lw_answer high = again(65534);
+
+    check("due", 0, lw_host_acknowledge(&receiver.host, &high, 0x1234, acknowledgement), 1);
+    check_bytes("bytes", 0, acknowledgement, want, sizeof want);
+
+    /* No other answer calls for one, and then nothing is written. */
+    for (unsigned kind = 0; kind < 300; kind++) {
+        const lw_answer answer = {.kind = kind, .number = 5};
+        if (kind == LW_ACCEPTED || kind == LW_AGAIN)
+            continue;
+        memset(acknowledgement, 0xee, sizeof acknowledgement);
+        check("due", kind, lw_host_acknowledge(&receiver.host, &answer, 0, acknowledgement), 0);
+        for (size_t i = 0; i < sizeof acknowledgement; i++)
+            check("unwritten", i, acknowledgement[i], 0xee);
+    }
+    end_group("acknowledgements");
+}
+
+static void check_host_opening(void)
+{
+    static const uint16_t ids[] = {0, 1, 2, 65535};
+    lw_description description;
+    lw_host host;
+
+    for (size_t own = 0; own < 4; own++) {
+        for (size_t peer = 0; peer < 4; peer++) {
+            const int zero = ids[own] == 0 || ids[peer] == 0;
+            memset(&host, 0xff, sizeof host);
+            check("opening", own * 4 + peer, lw_host_open(&host, ids[own], ids[peer]),
+                  zero ? LW_REFUSED_ID_ZERO : LW_NOT_REFUSED);
+            lw_host_describe(&host, &description);
+            check("own", own, description.own, zero ? 0 : ids[own]);
+            check("peer", peer, description.peer, zero ? 0 : ids[peer]);
+            check("next", 0, description.next, 0);
+            check("marks", 0, description.marks, 0);
+            check("lowest", 0, description.lowest, 0);
+            check("closed", 0, description.closed, 0);
+            check("open", 0, description.open, 0);
+        }
+    }
+    end_group("opening a host");
+}
+
+static void check_wire_refusals(void)
+{
+    static uint8_t frame[LW_LONGEST_FRAME + 1];
+    struct receiver receiver = fresh_receiver();
+
+    memcpy(frame, whole_case, sizeof whole_case);
+    check_receive(1, &receiver, frame, 9, refused(LW_REFUSED_FRAME_TOO_SHORT, 0));
+    check_receive(2, &receiver, frame, sizeof frame, refused(LW_REFUSED_FRAME_TOO_LONG, 0));
+    check_receive(5, &receiver, frame, 37, refused(LW_REFUSED_PAST_FRAME_END, 0));
+    frame[0] = 3;
+    check_receive(3, &receiver, frame, 38, refused(LW_REFUSED_WRONG_ID, 0));
+    frame[0] = 1;
+    frame[3] = 1;
+    check_receive(3, &receiver, frame, 38, refused(LW_REFUSED_WRONG_ID, 0));
+    frame[3] = 0;
+    frame[9] = 3;
+    check_receive(4, &receiver, frame, 38, refused(LW_REFUSED_RESERVED_FLAG, 0));
+    frame[9] = 0;
+    check_receive(0, &receiver, frame, 38, (lw_answer){.kind = LW_NO_MESSAGES});
+    check_receive(0, &receiver, frame, 10, (lw_answer){.kind = LW_NO_MESSAGES});
+    end_group("refusals 1 to 5 and no messages");
+}
+
+/* Both sides of each edge of the window of frames. */
+static void check_frame_window(void)
+{
+    const struct message message = bare(0);
+    struct receiver receiver = fresh_receiver();
+
+    check_frame(64, &receiver, 64, &message, 1, refused(LW_REFUSED_FRAME_AHEAD, 0));
+    check_frame(32767, &receiver, 32767, &message, 1, refused(LW_REFUSED_FRAME_AHEAD, 0));
+    check_frame(32768, &receiver, 32768, &message, 1, again(32768));
+    check_frame(65535, &receiver, 65535, &message, 1, again(65535));
+    check_frame(63, &receiver, 63, &message, 1, accepted(63, 1, 0, 1));
+    check_frame(63, &receiver, 63, &message, 1, again(63));
+
+    lw_description description;
+    lw_host_describe(&receiver.host, &description);
+    check("next", 0, description.next, 0);
+    check("marks", 0, description.marks, (uint64_t)1 << 63);
+    for (uint32_t number = 0; number < 63; number++) {
+        const struct message next = bare(1 + number);
+        check_frame(number, &receiver, number, &next, 1, accepted(number, 1, 0, 1));
+    }
+    lw_host_describe(&receiver.host, &description);
+    check("next moved past all", 0, description.next, 64);
+    check("marks", 0, description.marks, 0);
+    check("lowest", 0, description.lowest, 64);
+    end_group("window of frames");
+}
+
+static void check_message_refusals(void)
+{
+    struct receiver receiver = fresh_receiver();
+    /* A good message in front, so that the place is 1 and nothing may be written. */
+    struct message two[2] = {{.count = 2, .completion = 64, .value = 7, .length = 8}};
+
+    two[1] = bare(32);
+    check_frame(7, &receiver, 0, two, 2, refused(LW_REFUSED_TRANSACTION_OUTSIDE_WINDOW, 1));
+    two[1] = bare(UINT32_MAX);
+    check_frame(7, &receiver, 0, two, 2, refused(LW_REFUSED_TRANSACTION_OUTSIDE_WINDOW, 1));
+    two[1] = bare(1);
+    two[1].length = 1;
+    check_frame(10, &receiver, 0, two, 2, refused(LW_REFUSED_BARE_WITH_DATA, 1));
+    two[1].length = 0;
+    two[1].completion = 65;
+    check_frame(12, &receiver, 0, two, 2, refused(LW_REFUSED_COMPLETION_OUTSIDE_MEMORY, 1));
+    two[1].completion = UINT32_MAX - 1;
+    check_frame(12, &receiver, 0, two, 2, refused(LW_REFUSED_COMPLETION_OUTSIDE_MEMORY, 1));
+    two[1].completion = 64;
+    two[1].address = 69;
+    check_frame(11, &receiver, 0, two, 2, refused(LW_REFUSED_DATA_OUTSIDE_MEMORY, 1));
+    two[1].count = 1;
+    two[1].length = 2;
+    two[1].address = UINT32_MAX;
+    check_frame(11, &receiver, 0, two, 2, refused(LW_REFUSED_DATA_OUTSIDE_MEMORY, 1));
+    two[1].address = 67;
+    check_frame(11, &receiver, 0, two, 2, refused(LW_REFUSED_DATA_OUTSIDE_MEMORY, 1));
+    two[1] = two[0];
+    two[1].value = 8;
+    check_frame(9, &receiver, 0, two, 2, refused(LW_REFUSED_TRANSACTION_DIFFERS, 1));
+    two[1].value = 7;
+    two[1].count = 3;
+    check_frame(9, &receiver, 0, two, 2, refused(LW_REFUSED_TRANSACTION_DIFFERS, 1));
+    two[1].count = 2;
+    two[1].completion = 60;
+    check_frame(9, &receiver, 0, two, 2, refused(LW_REFUSED_TRANSACTION_DIFFERS, 1));
+
+    /* Data that ends with memory, and a completion that does. */
+    two[1] = (struct message){.transaction = 31, .count = 1, .completion = 64, .address = 68};
+    check_frame(0, &receiver, 0, two, 2, accepted(0, 2, 8, 1));
+    check("data", 0, receiver.memory[7], 0xdd);
+    check("behind the data", 0, receiver.memory[8], 0);
+    two[1] = bare(31);
+    check_frame(8, &receiver, 1, two + 1, 1, refused(LW_REFUSED_TRANSACTION_CLOSED, 0));
+    check_frame(1, &receiver, 1, two, 1, accepted(1, 1, 8, 1));
+    check("completion", 0, receiver.memory[64], 7);
+    end_group("refusals 7 to 12, and their edges");
+}
+
+static void check_description(void)
+{
+    struct receiver receiver = fresh_receiver();
+    const struct message five = {5, 64, 0xcafe, 3, 0, 1};
+    const struct message two = {2, 60, 0xbeef, 2, 8, 1};
+    const struct message messages[4] = {five, two, five, bare(1)};
+    static const uint64_t want[2][5] = {{2, 60, 0xbeef, 2, 1}, {5, 64, 0xcafe, 3, 2}};
+    lw_description description;
+
+    check_frame(0, &receiver, 3, messages, 4, accepted(3, 4, 3, 1));
+    memset(&description, 0xff, sizeof description);
+    lw_host_describe(&receiver.host, &description);
+    check("own", 0, description.own, OWN);
+    check("peer", 0, description.peer, PEER);
+    check("next", 0, description.next, 0);
+    check("marks", 0, description.marks, 8);
+    check("lowest", 0, description.lowest, 0);
+    check("closed", 0, description.closed, 2);
+    check("open", 0, description.open, 2);
+    for (size_t i = 0; i < LW_TRANSACTION_WINDOW; i++) {
+        const lw_transaction *open = &description.transactions[i];
+        check("transaction", i, open->number, i < 2 ? want[i][0] : 0);
+        check("its address", i, open->address, i < 2 ? want[i][1] : 0);
+        check("its value", i, open->value, i < 2 ? want[i][2] : 0);
+        check("its count", i, open->count, i < 2 ? want[i][3] : 0);
+        check("received", i, open->received, i < 2 ? want[i][4] : 0);
+    }
+
+    /* A copy is a snapshot: what is done to it leaves the first as it is. */
+    struct receiver copy = receiver;
+    check_frame(0, &copy, 0, &two, 1, accepted(0, 1, 1, 1));
+    check_frame(0, &receiver, 0, &two, 1, accepted(0, 1, 1, 1));
+    check_bytes("same state", 0, &copy, &receiver, sizeof copy);
+    end_group("description of a host, and copies");
+}
+
+/* ---- The card ---------------------------------------------------------- */
+
+/* A card with its slots. */
+struct sender {
+    lw_card card;
+    uint8_t slots[SLOTS];
+};
+
+static void open_sender(struct sender *sender)
+{
+    memset(sender->slots, 0xa5, sizeof sender->slots);
+    check("opening a card", 0,
+          lw_card_open(&sender->card, PEER, OWN, LIMIT, sender->slots, sizeof sender->slots),
+          LW_NOT_REFUSED);
+}
+
+static uint32_t open_transaction(struct sender *sender, uint16_t count)
+{
+    uint32_t transaction = UINT32_MAX;
+
+    check("opening a transaction", count,
+          lw_card_open_transaction(&sender->card, count, 0, 0, &transaction), LW_NOT_REFUSED);
+    return transaction;
+}
+
+static uint32_t add(struct sender *sender, uint32_t transaction, const uint8_t *data, size_t length)
+{
+    return lw_card_add(&sender->card, sender->slots, sizeof sender->slots, transaction, 0, data,
+                       length);
+}
+
+static uint32_t seal(struct sender *sender, uint16_t *number)
+{
+    return lw_card_seal(&sender->card, sender->slots, sizeof sender->slots, number);
+}
+
+static uint32_t show(const struct sender *sender, uint16_t number, lw_part *part)
+{
+    return lw_card_show(&sender->card, sender->slots, sizeof sender->slots, number, part);
+}
+
+static uint32_t choose(const struct sender *sender, const uint8_t *lent, size_t length,
+                       lw_part *part)
+{
+    return lw_card_choose(&sender->card, sender->slots, sizeof sender->slots, lent, length, part);
+}
+
+/* Acknowledges one frame. */
+static uint32_t acknowledge(struct sender *sender, uint32_t number)
+{
+    uint8_t frame[LW_ACKNOWLEDGEMENT];
+
+    memcpy(frame, whole_acknowledgement, sizeof frame);
+    put16(frame + 6, number);
+    return lw_card_read(&sender->card, frame, sizeof frame);
+}
+
+static void check_part(unsigned long at, lw_part part, const uint8_t *start, size_t length)
+{
+    check("part's start", at, part.start == start, 1);
+    check("part's length", at, part.length, length);
+}
+
+static void check_whole_case_at_card(void)
+{
+    static struct sender sender;
+    const uint8_t data[4] = {0x0a, 0x0b, 0x0c, 0x0d};
+    uint32_t transaction = 9;
+    uint16_t number = 9;
+    lw_part part;
+
+    open_sender(&sender);
+    check("open", 0, lw_card_open_transaction(&sender.card, 1, 64, 0x11223344, &transaction), 0);
+    check("transaction", 0, transaction, 0);
+    check("add", 0, add(&sender, 0, data, sizeof data), 0);
+    check("show before sealing", 0, show(&sender, 0, &part), LW_REFUSED_NOT_HELD);
+    check_part(0, part, NULL, 0);
+    check("seal", 0, seal(&sender, &number), 0);
+    check("number", 0, number, 0);
+    check_bytes("frame", 0, sender.slots, whole_case, sizeof whole_case);
+    for (size_t i = sizeof whole_case; i < sizeof sender.slots; i++)
+        check("no other slot byte", i, sender.slots[i], 0xa5);
+
+    check("show", 0, show(&sender, 0, &part), 0);
+    check_part(1, part, sender.slots, sizeof whole_case);
+    check("choose", 0, choose(&sender, NULL, 0, &part), 0);
+    check_part(2, part, sender.slots, sizeof whole_case);
+    check("choose with a lent one", 0,
+          choose(&sender, whole_acknowledgement, sizeof whole_acknowledgement, &part), 0);
+    check_part(3, part, whole_acknowledgement, sizeof whole_acknowledgement);
+    check("choose with a short one", 0, choose(&sender, whole_acknowledgement, 9, &part), 0);
+    check_part(4, part, sender.slots, sizeof whole_case);
+
+    check("read", 0, lw_card_read(&sender.card, whole_acknowledgement, 10), 0);
+    check("show", 0, show(&sender, 0, &part), LW_REFUSED_NOT_HELD);
+    check_part(5, part, NULL, 0);
+    check("choose", 0, choose(&sender, NULL, 0, &part), LW_REFUSED_NOT_HELD);
+    check_part(6, part, NULL, 0);
+    end_group("whole case at the card");
+}
+
+static void check_card_opening(void)
+{
+    static const struct {
+        uint16_t own, peer;
+        size_t limit, size;
+        uint32_t refusal;
+    } openings[] = {{0, 1, 33, 0, LW_REFUSED_ID_ZERO},
+                    {1, 0, 33, 0, LW_REFUSED_ID_ZERO},
+                    {2, 1, 33, 2112, LW_REFUSED_BAD_LIMIT_OR_SLOTS},
+                    {2, 1, 34, 2175, LW_REFUSED_BAD_LIMIT_OR_SLOTS},
+                    {2, 1, 34, 2177, LW_REFUSED_BAD_LIMIT_OR_SLOTS},
+                    {2, 1, 9001, 576064, LW_REFUSED_BAD_LIMIT_OR_SLOTS},
+                    {2, 1, SIZE_MAX, 576000, LW_REFUSED_BAD_LIMIT_OR_SLOTS},
+                    {2, 1, (size_t)1 << 58, 0, LW_REFUSED_BAD_LIMIT_OR_SLOTS},
+                    {2, 1, 34, 2176, LW_NOT_REFUSED},
+                    {65535, 65535, 9000, 576000, LW_NOT_REFUSED}};
+    static uint8_t slots[LW_SLOTS_SIZE(LW_LONGEST_FRAME) + 64];
+    lw_card card;
+    uint16_t number = 77;
+
+    for (size_t i = 0; i < sizeof openings / sizeof openings[0]; i++) {
+        memset(&card, 0xff, sizeof card);
+        check("opening", i,
+              lw_card_open(&card, openings[i].own, openings[i].peer, openings[i].limit, slots,
+                           openings[i].size),
+              openings[i].refusal);
+        /* A card that was refused has limit 0, so no slots fit it. */
+        check("sealing", i, lw_card_seal(&card, slots, openings[i].size, &number),
+              openings[i].refusal == LW_NOT_REFUSED ? LW_REFUSED_NOTHING_TO_SEAL
+                                                    : LW_REFUSED_BAD_LIMIT_OR_SLOTS);
+        check("number as it was", i, number, 77);
+    }
+    end_group("opening a card");
+}
+
+/* Adds a message, which has to be refused and to change nothing. */
+static void check_refused_add(struct sender *sender, uint32_t transaction, size_t length,
+                              uint32_t want)
+{
+    static struct sender before;
+    const uint8_t data[LIMIT] = {0};
+
+    before = *sender;
+    check("add", want, add(sender, transaction, data, length), want);
+    check_bytes("card and slots as they were", want, &before, sender, sizeof before);
+}
+
+static void check_card_refusals(void)
+{
+    static struct sender sender;
+    uint16_t number = 77;
+    uint32_t transaction = 77;
+
+    open_sender(&sender);
+    check_refused_add(&sender, 0, 0, LW_REFUSED_NO_MESSAGE_LEFT);
+    check("seal", 0, seal(&sender, &number), LW_REFUSED_NOTHING_TO_SEAL);
+    open_transaction(&sender, 0);
+    open_transaction(&sender, 2);
+    check_refused_add(&sender, 0, 1, LW_REFUSED_DATA_FOR_BARE);
+    check_refused_add(&sender, 1, LIMIT - 33, LW_REFUSED_FRAME_FULL);
+    check("add", 0, add(&sender, 0, NULL, 0), 0);
+    check_refused_add(&sender, 0, 0, LW_REFUSED_NO_MESSAGE_LEFT);
+    check_refused_add(&sender, 2, 0, LW_REFUSED_NO_MESSAGE_LEFT);
+    check_refused_add(&sender, UINT32_MAX, 0, LW_REFUSED_NO_MESSAGE_LEFT);
+    for (unsigned i = 2; i < LW_TRANSACTION_WINDOW; i++)
+        check("transaction", i, open_transaction(&sender, 1), i);
+    check("33rd transaction", 0, lw_card_open_transaction(&sender.card, 1, 0, 0, &transaction),
+          LW_REFUSED_TRANSACTION_WINDOW_FULL);
+    check("transaction as it was", 0, transaction, 77);
+    check("wrong slots", 0,
+          lw_card_add(&sender.card, sender.slots, sizeof sender.slots - 1, 1, 0, NULL, 0),
+          LW_REFUSED_BAD_LIMIT_OR_SLOTS);
+    check("wrong slots", 0,
+          lw_card_seal(&sender.card, sender.slots, sizeof sender.slots - 1, &number),
+          LW_REFUSED_BAD_LIMIT_OR_SLOTS);
+    check("number as it was", 0, number, 77);
+
+    lw_part part;
+    check("wrong slots", 0,
+          lw_card_show(&sender.card, sender.slots, sizeof sender.slots + 1, 0, &part),
+          LW_REFUSED_BAD_LIMIT_OR_SLOTS);
+    check_part(0, part, NULL, 0);
+    check("wrong slots", 0,
+          lw_card_choose(&sender.card, sender.slots, sizeof sender.slots + 1,
+                         whole_acknowledgement, 10, &part),
+          LW_REFUSED_BAD_LIMIT_OR_SLOTS);
+    check_part(1, part, NULL, 0);
+    end_group("refusals 20 to 27");
+}
+
+static void check_full_window(void)
+{
+    static struct sender sender;
+    uint16_t number;
+    lw_part part;
+
+    open_sender(&sender);
+    open_transaction(&sender, 1000);
+    for (unsigned i = 0; i < LW_FRAME_WINDOW; i++) {
+        check("add", i, add(&sender, 0, NULL, 0), 0);
+        check("seal", i, seal(&sender, &number), 0);
+        check("number", i, number, i);
+    }
+    check_refused_add(&sender, 0, 0, LW_REFUSED_FRAME_WINDOW_FULL);
+
+    /* Frame 1 is acknowledged and not released: 0 is still to come. */
+    check("read", 1, acknowledge(&sender, 1), 0);
+    check("show", 1, show(&sender, 1, &part), LW_REFUSED_NOT_HELD);
+    check_refused_add(&sender, 0, 0, LW_REFUSED_FRAME_WINDOW_FULL);
+    check("choose", 1, choose(&sender, NULL, 0, &part), 0);
+    check_part(1, part, sender.slots, 34);
+    check("read", 0, acknowledge(&sender, 0), 0);
+    check("choose", 2, choose(&sender, NULL, 0, &part), 0);
+    check_part(2, part, sender.slots + 2 * LIMIT, 34);
+    check("add", 64, add(&sender, 0, NULL, 0), 0);
+    check("seal", 64, seal(&sender, &number), 0);
+    check("number", 64, number, 64);
+    check("show", 64, show(&sender, 64, &part), 0);
+    check_part(64, part, sender.slots, 34);
+    end_group("window of 64 sealed frames");
+}
+
+/* Both sides of the frame limit, and what adding a second message writes. */
+static void check_limit(void)
+{
+    static uint8_t slots[LW_SLOTS_SIZE(66)];
+    static const uint8_t data[1] = {0xff};
+
+    for (size_t limit = 34; limit <= 66; limit++) {
+        const size_t size = LW_SLOTS_SIZE(limit);
+        uint32_t transaction;
+        lw_card card;
+
+        check("open", limit, lw_card_open(&card, PEER, OWN, limit, slots, size), 0);
+        check("transaction", limit, lw_card_open_transaction(&card, 2, 0, 0, &transaction), 0);
+        check("length 1", limit, lw_card_add(&card, slots, size, 0, 0, data, 1),
+              limit == 34 ? LW_REFUSED_FRAME_FULL : LW_NOT_REFUSED);
+        check("second message", limit, lw_card_add(&card, slots, size, 0, 0, NULL, 0),
+              limit == 34 || limit == 66 ? LW_NOT_REFUSED : LW_REFUSED_FRAME_FULL);
+    }
+    check("trailing byte", 0, slots[33], 1);
+    for (size_t i = 35; i < 42; i++)
+        check("gap", i, slots[i], 0);
+    check("trailing byte", 1, slots[65], 0);
+    end_group("frame limit");
+}
+
+static void check_reading(void)
+{
+    static struct sender sender;
+    static uint8_t frame[LW_LONGEST_FRAME + 1];
+    lw_part part;
+    uint16_t number;
+
+    open_sender(&sender);
+    open_transaction(&sender, 1);
+    check("add", 0, add(&sender, 0, NULL, 0), 0);
+    check("seal", 0, seal(&sender, &number), 0);
+    memcpy(frame, whole_acknowledgement, sizeof whole_acknowledgement);
+    check("short", 0, lw_card_read(&sender.card, frame, 9), LW_REFUSED_FRAME_TOO_SHORT);
+    check("long", 0, lw_card_read(&sender.card, frame, sizeof frame), LW_REFUSED_FRAME_TOO_LONG);
+    frame[9] = 1;
+    check("cut", 0, lw_card_read(&sender.card, frame, 10), LW_REFUSED_PAST_FRAME_END);
+    frame[9] = 2;
+    check("flag", 0, lw_card_read(&sender.card, frame, 10), LW_REFUSED_RESERVED_FLAG);
+    frame[0] = 9;
+    check("ID", 0, lw_card_read(&sender.card, frame, 10), LW_REFUSED_WRONG_ID);
+    check("still held", 0, show(&sender, 0, &part), 0);
+
+    /* A range that comes round: 65,535 and 0. */
+    memcpy(frame, whole_acknowledgement, sizeof whole_acknowledgement);
+    put16(frame + 6, 65535);
+    frame[8] = 2;
+    check("range", 0, lw_card_read(&sender.card, frame, 10), 0);
+    check("not held", 0, show(&sender, 0, &part), LW_REFUSED_NOT_HELD);
+    end_group("reading acknowledgements");
+}
+
+/* ---- Both -------------------------------------------------------------- */
+
+/* What a card sends arrives, while all frame numbers come round. */
+static void check_coming_round(void)
+{
+    enum { FRAMES = 66000 };
+    static struct sender sender;
+    struct receiver receiver = fresh_receiver();
+    uint8_t acknowledgement[LW_ACKNOWLEDGEMENT];
+    lw_answer answer;
+    lw_part part;
+    uint16_t number;
+
+    open_sender(&sender);
+    for (uint32_t i = 0; i < FRAMES; i++) {
+        uint8_t data[4];
+        uint32_t transaction;
+        put32(data, i);
+        const uint32_t refusals =
+            lw_card_open_transaction(&sender.card, 1, 64, ~i, &transaction) |
+            add(&sender, transaction, data, sizeof data) | seal(&sender, &number) |
+            choose(&sender, NULL, 0, &part);
+        check("card's steps", i, refusals, 0);
+        check("kind", i,
+              lw_host_receive(&receiver.host, part.start, part.length, receiver.memory,
+                              sizeof receiver.memory, &answer),
+              LW_ACCEPTED);
+        check("number", i, answer.number, i % 65536);
+        check_bytes("data", i, receiver.memory, data, sizeof data);
+        put32(data, ~i);
+        check_bytes("completion", i, receiver.memory + 64, data, sizeof data);
+        check("due", i, lw_host_acknowledge(&receiver.host, &answer, 0, acknowledgement), 1);
+        check("read", i, lw_card_read(&sender.card, acknowledgement, sizeof acknowledgement), 0);
+    }
+    end_group("frame numbers that come round");
+}
+
+static void check_null(void)
+{
+    lw_host host;
+    lw_card card;
+    lw_answer answer;
+    lw_part part;
+    uint16_t number;
+
+    check("host", 0, lw_host_open(&host, OWN, PEER), 0);
+    check("receive", 0, lw_host_receive(&host, NULL, 0, NULL, 0, &answer), LW_REFUSED);
+    check("refusal", 0, answer.refusal, LW_REFUSED_FRAME_TOO_SHORT);
+    check("receive", 1, lw_host_receive(&host, whole_case, 38, NULL, 0, &answer), LW_REFUSED);
+    check("refusal", 1, answer.refusal, LW_REFUSED_DATA_OUTSIDE_MEMORY);
+    check("card", 0, lw_card_open(&card, OWN, PEER, 34, NULL, 0), LW_REFUSED_BAD_LIMIT_OR_SLOTS);
+    check("add", 0, lw_card_add(&card, NULL, 0, 0, 0, NULL, 0), LW_REFUSED_BAD_LIMIT_OR_SLOTS);
+    check("seal", 0, lw_card_seal(&card, NULL, 0, &number), LW_REFUSED_BAD_LIMIT_OR_SLOTS);
+    check("read", 0, lw_card_read(&card, NULL, 0), LW_REFUSED_FRAME_TOO_SHORT);
+    check("show", 0, lw_card_show(&card, NULL, 0, 0, &part), LW_REFUSED_BAD_LIMIT_OR_SLOTS);
+    check_part(0, part, NULL, 0);
+    check("choose", 0, lw_card_choose(&card, NULL, 0, NULL, 0, &part),
+          LW_REFUSED_BAD_LIMIT_OR_SLOTS);
+    check_part(1, part, NULL, 0);
+    end_group("no bytes at NULL, both ends");
+}
+
+/* A buffer that ends at a closed page: a step past its end would be a fault. */
+static uint8_t *closed_behind(size_t size)
+{
+    const size_t page = (size_t)sysconf(_SC_PAGESIZE);
+    const size_t room = (size / page + 1) * page;
+    uint8_t *start = mmap(NULL, room + page, PROT_READ | PROT_WRITE, MAP_PRIVATE | MAP_ANONYMOUS,
+                          -1, 0);
+
+    if (start == MAP_FAILED || mprotect(start + room, page, PROT_NONE) != 0) {
+        perror("closed page");
+        exit(EXIT_FAILURE);
+    }
+    return start + room - size;
+}
+
+static uint64_t next_random(uint64_t *seed)
+{
+    *seed += 0x9e3779b97f4a7c15;
+    uint64_t mixed = *seed;
+    mixed = (mixed ^ mixed >> 30) * 0xbf58476d1ce4e5b9;
+    mixed = (mixed ^ mixed >> 27) * 0x94d049bb133111eb;
+    return mixed ^ mixed >> 31;
+}
+
+/* Words of any bits; now and then few of them set, so that windows are met. */
+static void make_wild(uint64_t *words, size_t count, uint64_t *seed)
+{
+    const uint64_t mask = next_random(seed) % 3 == 0 ? 0x0003000300030003 : UINT64_MAX;
+
+    for (size_t i = 0; i < count; i++)
+        words[i] = next_random(seed) & mask;
+}
+
+/* A message near the window: of an open transaction, or of any in reach. */
+static struct message wild_message(const lw_description *host, uint64_t *seed)
+{
+    struct message message = {.transaction = (uint32_t)(host->lowest + next_random(seed) % 33),
+                              .count = (uint16_t)(next_random(seed) % 4),
+                              .address = (uint32_t)(next_random(seed) % MEMORY)};
+
+    if (host->open > 0 && next_random(seed) % 8 != 0) {
+        const lw_transaction *open = &host->transactions[next_random(seed) % host->open];
+        message.transaction = (uint32_t)open->number;
+        message.count = (uint16_t)open->count;
+        message.completion = (uint32_t)open->address;
+        message.value = (uint32_t)open->value;
+    }
+    return message;
+}
+
+/* Hosts of any words at all, with frames made for their IDs and near their windows. */
+static void check_wild_hosts(void)
+{
+    enum { MESSAGES = 3, LENGTH = LW_FRAME_HEADER + MESSAGES * LW_MESSAGE_HEADER, SIZE = 0x40000 };
+    uint8_t *const memory = closed_behind(SIZE);
+    uint8_t *const frame = closed_behind(LENGTH);
+    uint64_t seed = 1;
+    unsigned long taken = 0;
+
+    for (unsigned long i = 0; i < 30000; i++) {
+        uint8_t acknowledgement[LW_ACKNOWLEDGEMENT];
+        struct message messages[MESSAGES];
+        lw_description state;
+        lw_answer answer;
+        lw_host host;
+        make_wild(host.words, LW_HOST_WORDS, &seed);
+        lw_host_describe(&host, &state);
+        check("open ones", i, state.open <= LW_TRANSACTION_WINDOW, 1);
+        for (size_t k = 0; k < MESSAGES; k++)
+            messages[k] = wild_message(&state, &seed);
+        lay_out(frame, (uint32_t)(state.next + next_random(&seed) % 65), messages, MESSAGES);
+        put16(frame, (uint32_t)state.own);
+        put16(frame + 2, (uint32_t)state.peer);
+        const uint32_t kind = lw_host_receive(&host, frame, LENGTH, memory, SIZE, &answer);
+        check("kind", i, kind == answer.kind && kind >= LW_ACCEPTED && kind <= LW_REFUSED, 1);
+        check("due", i, lw_host_acknowledge(&host, &answer, 0, acknowledgement),
+              kind == LW_ACCEPTED || kind == LW_AGAIN);
+        taken += kind == LW_ACCEPTED;
+    }
+    check("many were accepted", taken, taken > 1000, 1);
+    end_group("hosts of any words");
+}
+
+/* Cards of any words at all, lent slots of the size that their limit asks for. */
+static void check_wild_cards(void)
+{
+    static const size_t limits[] = {34, 66, 100, 9000};
+    uint64_t seed = 2;
+
+    for (size_t l = 0; l < sizeof limits / sizeof limits[0]; l++) {
+        const size_t size = LW_SLOTS_SIZE(limits[l]);
+        uint8_t *const slots = closed_behind(size);
+        uint8_t frame[LW_ACKNOWLEDGEMENT];
+        lw_card fresh, card;
+        lw_part part;
+        check("open", l, lw_card_open(&fresh, PEER, OWN, limits[l], slots, size), 0);
+        for (unsigned long i = 0; i < 5000; i++) {
+            uint32_t transaction = (uint32_t)next_random(&seed);
+            uint16_t number = (uint16_t)next_random(&seed);
+            make_wild(card.words, LW_CARD_WORDS, &seed);
+            /* The first word of a fresh card has IDs and limit. */
+            card.words[0] = fresh.words[0] | (card.words[0] & (uint64_t)0xffff << 48);
+            (void)lw_card_open_transaction(&card, 1, 0, 0, &transaction);
+            (void)lw_card_add(&card, slots, size, transaction, 0, NULL, 0);
+            (void)lw_card_add(&card, slots, size, transaction, 0, whole_case, sizeof whole_case);
+            (void)lw_card_seal(&card, slots, size, &number);
+            memcpy(frame, whole_acknowledgement, sizeof frame);
+            put16(frame + 6, number);
+            frame[8] = (uint8_t)i;
+            (void)lw_card_read(&card, frame, sizeof frame);
+            for (unsigned k = 0; k < 4; k++) {
+                const uint32_t refusal =
+                    k == 0 ? lw_card_choose(&card, slots, size, NULL, 0, &part)
+                           : lw_card_show(&card, slots, size, (uint16_t)(number + k), &part);
+                if (refusal != LW_NOT_REFUSED)
+                    check_part(i, part, NULL, 0);
+                else
+                    check("part lies in the slots", i,
+                          part.start >= slots && part.start + part.length <= slots + size, 1);
+            }
+        }
+    }
+    end_group("cards of any words");
+}
+
+/* A name is its constant's in small letters. */
+static void check_name(uint32_t number, const char *constant)
+{
+    const char *name = lw_refusal_name(number);
+    const size_t length = strlen(constant);
+
+    check("length of a name", number, strlen(name), length);
+    for (size_t i = 0; i < length && i < strlen(name); i++) {
+        const char want = constant[i] == '_' ? ' ' : (char)tolower((unsigned char)constant[i]);
+        check("letter of a name", number, name[i] == want, 1);
+    }
+    check("has a class", number, lw_refusal_class(number) != LW_CLASS_NONE, 1);
+}
+
+#define CHECK_NAME(number, constant)                                                              \
+    do {                                                                                          \
+        check("constant", number, LW_REFUSED_##constant, number);                                 \
+        check_name(number, #constant);                                                            \
+    } while (0)
+
+static void check_names(void)
+{
+    CHECK_NAME(1, FRAME_TOO_SHORT);
+    CHECK_NAME(2, FRAME_TOO_LONG);
+    CHECK_NAME(3, WRONG_ID);
+    CHECK_NAME(4, RESERVED_FLAG);
+    CHECK_NAME(5, PAST_FRAME_END);
+    CHECK_NAME(6, FRAME_AHEAD);
+    CHECK_NAME(7, TRANSACTION_OUTSIDE_WINDOW);
+    CHECK_NAME(8, TRANSACTION_CLOSED);
+    CHECK_NAME(9, TRANSACTION_DIFFERS);
+    CHECK_NAME(10, BARE_WITH_DATA);
+    CHECK_NAME(11, DATA_OUTSIDE_MEMORY);
+    CHECK_NAME(12, COMPLETION_OUTSIDE_MEMORY);
+    CHECK_NAME(13, ID_ZERO);
+    CHECK_NAME(14, BAD_LINE);
+    CHECK_NAME(20, TRANSACTION_WINDOW_FULL);
+    CHECK_NAME(21, FRAME_WINDOW_FULL);
+    CHECK_NAME(22, FRAME_FULL);
+    CHECK_NAME(23, NO_MESSAGE_LEFT);
+    CHECK_NAME(24, NOTHING_TO_SEAL);
+    CHECK_NAME(25, NOT_HELD);
+    CHECK_NAME(26, BAD_LIMIT_OR_SLOTS);
+    CHECK_NAME(27, DATA_FOR_BARE);
+    check("none", 0, strcmp(lw_refusal_name(0), "none") == 0, 1);
+    for (uint32_t number = 1; number < 300; number++)
+        check("unknown exactly without a class", number,
+              strcmp(lw_refusal_name(number), "unknown") == 0,
+              lw_refusal_class(number) == LW_CLASS_NONE);
+    check("unknown", 0, strcmp(lw_refusal_name(UINT32_MAX), "unknown") == 0, 1);
+    end_group("names of refusals");
+}
+
+int main(void)
+{
+    /* A fault inside the library must not swallow the lines before it. */
+    setvbuf(stdout, NULL, _IOLBF, 0);
+
+    check_whole_case_at_host();
+    check_acknowledgements();
+    check_host_opening();
+    check_wire_refusals();
+    check_frame_window();
+    check_message_refusals();
+    check_description();
+    check_whole_case_at_card();
+    check_card_opening();
+    check_card_refusals();
+    check_full_window();
+    check_limit();
+    check_reading();
+    check_coming_round();
+    check_null();
+    check_wild_hosts();
+    check_wild_cards();
+    check_names();
+    return end_checks();
+}
