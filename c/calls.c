@@ -177,10 +177,10 @@ static void put_digest(struct buffer buffer)
 
 /* ---- Calls ------------------------------------------------------------- */
 
-/* Each takes the words behind the command's, as many as the table below says. It
+/* Each takes the words after the command's, as many as the table below says. It
  * gives false, having changed and written nothing, if one is not of its form. */
 
-/* A new buffer of bytes with this value in the place of the old one. */
+/* A new buffer of bytes with this value instead of the old one. */
 static void renew(struct buffer *buffer, size_t size, int value)
 {
     free(buffer->start);

@@ -281,53 +281,69 @@ static void check_frame_window(void)
     end_group("window of frames");
 }
 
-static void check_message_refusals(void)
+/* Receives a good message and then this one, for which both are refused. */
+static void check_second(struct receiver *receiver, struct message second, uint32_t refusal)
+{
+    const struct message two[2] = {{.count = 2, .completion = 64, .value = 7, .length = 8}, second};
+
+    check_frame(refusal, receiver, 0, two, 2, refused(refusal, 1));
+}
+
+static void check_transaction_refusals(void)
 {
     struct receiver receiver = fresh_receiver();
-    /* A good message in front, so that the place is 1 and nothing may be written. */
-    struct message two[2] = {{.count = 2, .completion = 64, .value = 7, .length = 8}};
+    const struct message first = {.count = 2, .completion = 64, .value = 7, .length = 8};
+    struct message second = first;
 
-    two[1] = bare(32);
-    check_frame(7, &receiver, 0, two, 2, refused(LW_REFUSED_TRANSACTION_OUTSIDE_WINDOW, 1));
-    two[1] = bare(UINT32_MAX);
-    check_frame(7, &receiver, 0, two, 2, refused(LW_REFUSED_TRANSACTION_OUTSIDE_WINDOW, 1));
-    two[1] = bare(1);
-    two[1].length = 1;
-    check_frame(10, &receiver, 0, two, 2, refused(LW_REFUSED_BARE_WITH_DATA, 1));
-    two[1].length = 0;
-    two[1].completion = 65;
-    check_frame(12, &receiver, 0, two, 2, refused(LW_REFUSED_COMPLETION_OUTSIDE_MEMORY, 1));
-    two[1].completion = UINT32_MAX - 1;
-    check_frame(12, &receiver, 0, two, 2, refused(LW_REFUSED_COMPLETION_OUTSIDE_MEMORY, 1));
-    two[1].completion = 64;
-    two[1].address = 69;
-    check_frame(11, &receiver, 0, two, 2, refused(LW_REFUSED_DATA_OUTSIDE_MEMORY, 1));
-    two[1].count = 1;
-    two[1].length = 2;
-    two[1].address = UINT32_MAX;
-    check_frame(11, &receiver, 0, two, 2, refused(LW_REFUSED_DATA_OUTSIDE_MEMORY, 1));
-    two[1].address = 67;
-    check_frame(11, &receiver, 0, two, 2, refused(LW_REFUSED_DATA_OUTSIDE_MEMORY, 1));
-    two[1] = two[0];
-    two[1].value = 8;
-    check_frame(9, &receiver, 0, two, 2, refused(LW_REFUSED_TRANSACTION_DIFFERS, 1));
-    two[1].value = 7;
-    two[1].count = 3;
-    check_frame(9, &receiver, 0, two, 2, refused(LW_REFUSED_TRANSACTION_DIFFERS, 1));
-    two[1].count = 2;
-    two[1].completion = 60;
-    check_frame(9, &receiver, 0, two, 2, refused(LW_REFUSED_TRANSACTION_DIFFERS, 1));
+    check_second(&receiver, bare(32), LW_REFUSED_TRANSACTION_OUTSIDE_WINDOW);
+    check_second(&receiver, bare(UINT32_MAX), LW_REFUSED_TRANSACTION_OUTSIDE_WINDOW);
+    second.value++;
+    check_second(&receiver, second, LW_REFUSED_TRANSACTION_DIFFERS);
+    second = first;
+    second.count++;
+    check_second(&receiver, second, LW_REFUSED_TRANSACTION_DIFFERS);
+    second = first;
+    second.completion--;
+    check_second(&receiver, second, LW_REFUSED_TRANSACTION_DIFFERS);
+    second = bare(1);
+    second.length = 1;
+    check_second(&receiver, second, LW_REFUSED_BARE_WITH_DATA);
 
-    /* Data that ends with memory, and a completion that does. */
-    two[1] = (struct message){.transaction = 31, .count = 1, .completion = 64, .address = 68};
-    check_frame(0, &receiver, 0, two, 2, accepted(0, 2, 8, 1));
-    check("data", 0, receiver.memory[7], 0xdd);
-    check("behind the data", 0, receiver.memory[8], 0);
-    two[1] = bare(31);
-    check_frame(8, &receiver, 1, two + 1, 1, refused(LW_REFUSED_TRANSACTION_CLOSED, 0));
-    check_frame(1, &receiver, 1, two, 1, accepted(1, 1, 8, 1));
+    second = bare(31);
+    check_frame(0, &receiver, 0, &second, 1, accepted(0, 1, 0, 1));
+    check_frame(8, &receiver, 1, &second, 1, refused(LW_REFUSED_TRANSACTION_CLOSED, 0));
+    end_group("refusals 7 to 10");
+}
+
+/* Both sides of the end of memory, which has 68 bytes. */
+static void check_memory_refusals(void)
+{
+    struct receiver receiver = fresh_receiver();
+    struct message message = {.transaction = 1, .count = 1, .completion = 64, .length = 2};
+
+    message.address = 67;
+    check_second(&receiver, message, LW_REFUSED_DATA_OUTSIDE_MEMORY);
+    message.address = UINT32_MAX;
+    check_second(&receiver, message, LW_REFUSED_DATA_OUTSIDE_MEMORY);
+    message.length = 0;
+    message.address = 69;
+    check_second(&receiver, message, LW_REFUSED_DATA_OUTSIDE_MEMORY);
+    message.address = 68;
+    message.completion = 65;
+    check_second(&receiver, message, LW_REFUSED_COMPLETION_OUTSIDE_MEMORY);
+    message.completion = UINT32_MAX - 1;
+    check_second(&receiver, message, LW_REFUSED_COMPLETION_OUTSIDE_MEMORY);
+
+    message.completion = 64;
+    message.value = 7;
+    check_frame(0, &receiver, 0, &message, 1, accepted(0, 1, 0, 1));
     check("completion", 0, receiver.memory[64], 7);
-    end_group("refusals 7 to 12, and their edges");
+    message = (struct message){.count = 1, .address = 60, .length = 8};
+    check_frame(1, &receiver, 1, &message, 1, accepted(1, 1, 8, 1));
+    check("before the data", 0, receiver.memory[59], 0);
+    check("data", 0, receiver.memory[60], 0xdd);
+    check("last byte", 0, receiver.memory[67], 0xdd);
+    end_group("refusals 11 and 12");
 }
 
 static void check_description(void)
@@ -708,7 +724,7 @@ static void check_null(void)
 }
 
 /* A buffer that ends at a closed page: a step past its end would be a fault. */
-static uint8_t *closed_behind(size_t size)
+static uint8_t *with_closed_end(size_t size)
 {
     const size_t page = (size_t)sysconf(_SC_PAGESIZE);
     const size_t room = (size / page + 1) * page;
@@ -761,8 +777,8 @@ static struct message wild_message(const lw_description *host, uint64_t *seed)
 static void check_wild_hosts(void)
 {
     enum { MESSAGES = 3, LENGTH = LW_FRAME_HEADER + MESSAGES * LW_MESSAGE_HEADER, SIZE = 0x40000 };
-    uint8_t *const memory = closed_behind(SIZE);
-    uint8_t *const frame = closed_behind(LENGTH);
+    uint8_t *const memory = with_closed_end(SIZE);
+    uint8_t *const frame = with_closed_end(LENGTH);
     uint64_t seed = 1;
     unsigned long taken = 0;
 
@@ -798,7 +814,7 @@ static void check_wild_cards(void)
 
     for (size_t l = 0; l < sizeof limits / sizeof limits[0]; l++) {
         const size_t size = LW_SLOTS_SIZE(limits[l]);
-        uint8_t *const slots = closed_behind(size);
+        uint8_t *const slots = with_closed_end(size);
         uint8_t frame[LW_ACKNOWLEDGEMENT];
         lw_card fresh, card;
         lw_part part;
@@ -895,7 +911,8 @@ int main(void)
     check_host_opening();
     check_wire_refusals();
     check_frame_window();
-    check_message_refusals();
+    check_transaction_refusals();
+    check_memory_refusals();
     check_description();
     check_whole_case_at_card();
     check_card_opening();

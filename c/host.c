@@ -204,7 +204,7 @@ static void check_clear_flag(void)
     for (size_t length = FRAME_HEADER; length <= LONGEST; length++)
         check_layout(length, frame, length, want);
     check_layout(sizeof frame, frame, sizeof frame, refused(LW_REFUSED_FRAME_TOO_LONG));
-    end_group("a clear flag with any bytes behind");
+    end_group("a clear flag with any bytes after it");
 }
 
 /* One byte of data, seven of gap, and a second message at 42 with three bytes. */
@@ -279,7 +279,7 @@ static void check_junk_behind(void)
     for (size_t length = sizeof whole_case; length <= LONGEST; length++)
         check_layout(length, frame, length, whole_layout);
     check_layout(sizeof frame, frame, sizeof frame, refused(LW_REFUSED_FRAME_TOO_LONG));
-    end_group("junk behind the last message");
+    end_group("junk after the last message");
 }
 
 static void check_longest(void)
@@ -345,7 +345,7 @@ static void check_only_lent_bytes(void)
                            MAP_PRIVATE | MAP_ANONYMOUS, -1, 0);
 
     if (memory == MAP_FAILED || mprotect(memory + room, page, PROT_NONE) != 0) {
-        check("memory with a closed page behind it", 0, 0, 1);
+        check("memory with a closed page after it", 0, 0, 1);
         end_group("only the lent bytes are read");
         return;
     }
@@ -370,7 +370,7 @@ static void check_only_lent_bytes(void)
         check_layout(length, end - length, length, refused(LW_REFUSED_PAST_FRAME_END));
     }
 
-    /* A message is announced just behind the end. */
+    /* A message is announced just past the end. */
     for (unsigned data = 0; data < 64; data++) {
         const size_t length = FRAME_HEADER + MESSAGE_HEADER + data;
         uint8_t *const frame = end - length;

@@ -190,10 +190,10 @@ typedef struct lw_part {
     size_t length;
 } lw_part;
 
-/* ---- What stands behind the functions below ---------------------------- */
+/* ---- The proved functions ---------------------------------------------- */
 
-/* The proved functions. Their pointers may not be NULL, whatever the length: call
- * the functions below instead, which see to it. */
+/* The functions further below only pass on to these. Do not call them yourself:
+ * their pointers may not be NULL, whatever the length. */
 uint32_t lw_raw_host_open(lw_host *host, uint16_t own, uint16_t peer);
 uint32_t lw_raw_host_receive(lw_host *host, const uint8_t *frame, size_t length, uint8_t *memory,
                              size_t size, lw_answer *answer);
@@ -213,7 +213,7 @@ uint32_t lw_raw_card_show(const lw_card *card, const uint8_t *slots, size_t size
 uint32_t lw_raw_card_choose(const lw_card *card, const uint8_t *slots, size_t size,
                             const uint8_t *acknowledgement, size_t length, uint64_t part[3]);
 
-/* They are handed the structs above as words one behind another. */
+/* They are handed the structs above as words in a row. */
 #ifdef __cplusplus
 #define LW_SAME_SIZE(type, count) static_assert(sizeof(type) == (count) * sizeof(uint64_t), "words")
 #else
@@ -327,11 +327,12 @@ static inline uint32_t lw_card_show(const lw_card *card, const uint8_t *slots, s
                                     uint16_t number, lw_part *part)
 {
     const uint8_t none = 0;
-    uint64_t place[2] = {0, 0};
-    const uint32_t refusal = lw_raw_card_show(card, size != 0 ? slots : &none, size, number, place);
+    uint64_t found[2] = {0, 0}; /* offset and length */
+    const uint32_t refusal =
+        lw_raw_card_show(card, size != 0 ? slots : &none, size, number, found);
 
-    part->start = refusal == LW_NOT_REFUSED ? slots + place[0] : NULL;
-    part->length = (size_t)place[1];
+    part->start = refusal == LW_NOT_REFUSED ? slots + found[0] : NULL;
+    part->length = (size_t)found[1];
     return refusal;
 }
 
@@ -343,14 +344,15 @@ static inline uint32_t lw_card_choose(const lw_card *card, const uint8_t *slots,
                                       const uint8_t *acknowledgement, size_t length, lw_part *part)
 {
     const uint8_t none = 0;
-    uint64_t place[3] = {0, 0, 0};
-    const uint32_t refusal = lw_raw_card_choose(card, size != 0 ? slots : &none, size,
-                                                length != 0 ? acknowledgement : &none, length, place);
+    uint64_t found[3] = {0, 0, 0}; /* 1 for the acknowledgement, offset and length */
+    const uint32_t refusal =
+        lw_raw_card_choose(card, size != 0 ? slots : &none, size,
+                           length != 0 ? acknowledgement : &none, length, found);
 
     part->start = NULL;
     if (refusal == LW_NOT_REFUSED)
-        part->start = (place[0] == 1 ? acknowledgement : slots) + place[1];
-    part->length = (size_t)place[2];
+        part->start = (found[0] == 1 ? acknowledgement : slots) + found[1];
+    part->length = (size_t)found[2];
     return refusal;
 }
 
@@ -391,7 +393,7 @@ uint32_t lw_flags(const uint8_t *frame, size_t length);
 uint32_t lw_message_count(const uint8_t *frame, size_t length);
 
 /* Sum of the messages' data lengths, 0 to 8,966: headers, gaps and what stands
- * behind the last message do not count; 0 if refused, and 0 for a clear flag. */
+ * after the last message do not count; 0 if refused, and 0 for a clear flag. */
 uint32_t lw_data_bytes(const uint8_t *frame, size_t length);
 
 #ifdef __cplusplus

@@ -18,7 +18,7 @@ enum {
     HOST_ID = 1,
     CARD_ID = 2,
 
-    /* In a UDP datagram the frame header starts behind two bytes, which are ignored. */
+    /* In a UDP datagram the frame header starts after two bytes, which are ignored. */
     PREFIX = 2,
     /* A frame, its two bytes, and the headers of UDP and IP fill 1,500 bytes. */
     FRAME_LIMIT = 1470,
