@@ -64,9 +64,10 @@ bench:
 # What takes too long for the gate: a file of 1 GB through the replay, and the comparisons with the independent implementation ten
 # times as long, from SEED=number on. It needs 1 GB of disk below target/.
 soak:
-	rt check replay calls
+	rt check replay
 	rt staticlib capi
 	rt staticlib host_run
+	$(MAKE) calls
 	cd rust && cargo test --offline --release -p logwhisker --test streams -- --include-ignored --nocapture
 	cd rust && LW_SEED=$(SEED) LW_INPUTS=12000000 LW_FRAMES=4000000 LW_LINES=20000000 LW_SCRIPTS=240 LW_LISTS=4000 LW_LONG_LISTS=10 \
 		cargo test --offline --release -p logwhisker -p reference --tests
