@@ -121,7 +121,7 @@ static void put32(uint8_t *at, uint32_t value)
 /* The numbers that decide about one message, or with `index` 0 a transaction. */
 static uint64_t seed_of(const struct sender *sender, uint64_t transaction, uint32_t index)
 {
-    uint64_t seed = (uint64_t)sender->seed << 32 ^ transaction * (MOST_MESSAGES + 1) ^ index;
+    uint64_t seed = ((uint64_t)sender->seed << 32) + transaction * (MOST_MESSAGES + 1) + index;
 
     (void)next_random(&seed);
     return seed;
