@@ -23,7 +23,7 @@ pub const TRANSACTION_OUTSIDE_WINDOW: u8 = 7;
 
 pub const TRANSACTION_CLOSED: u8 = 8;
 
-pub const HEADER_DIFFERS: u8 = 9;
+pub const TRANSACTION_DIFFERS: u8 = 9;
 
 pub const BARE_WITH_DATA: u8 = 10;
 

@@ -49,7 +49,7 @@ fn terms_refusal(d: u32, closed: u32, o: Open, h: MessageHeader, len: u16) -> u8
         return refusal::TRANSACTION_CLOSED;
     }
     if !has_same_terms(o, h) {
-        return refusal::HEADER_DIFFERS;
+        return refusal::TRANSACTION_DIFFERS;
     }
     if h.count == 0 {
         if 0 < len {
