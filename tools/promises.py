@@ -1,18 +1,18 @@
 """Reads the promises of the public functions of crates/*/src, for tools/check-claims.
 
-The rules ask of every public function (S1, S3) that its promise equates its result, and every buffer that it may write as it is
-at exit, with a definition, over any input. So for each `pub fn`:
+The rules ask of every public function (S1, S3) that its promise equates its result, and every buffer that it may
+write as it is at exit, with a definition, over any input. So for each `pub fn`:
   no `requires`;
   if it returns something, an `ensures` with an equation whose left side is the result;
   for each parameter of type `&mut`, an `ensures` with an equation whose left side is that parameter at exit.
-An equation with the same thing on its right side says nothing and does not count. A relation that a file of specs/ defines counts where
-its definition equates: without a condition, or in both of two cases `a ≡ b → ..` and `a ≢ b → ..`. What else is needed is an
-exemption with its reason (EXEMPT in tools/check-claims).
+An equation with the same thing on its right side says nothing and does not count. A relation that a file of specs/
+defines counts where its definition equates: without a condition, or in both of two cases `a ≡ b → ..` and
+`a ≢ b → ..`. What else is needed is an exemption with its reason (EXEMPT in tools/check-claims).
 """
 import re
 
-# Under these functions a result or a buffer at exit may be equated: the state that words stand for. What is left open then is what
-# the words do not mean.
+# Under these functions a result or a buffer at exit may be equated: the state that words stand for. What is left open
+# then is what the words do not mean.
 MEANINGS = ("pairOf", "cardOf")
 # Structs of one field, which are known when that field is.
 ONE_FIELD = ("FrameNo", "TransNo")
@@ -114,8 +114,8 @@ def public_functions(text):
 
 
 def relations_of(files):
-    """The relations that files of specs/ define: of each name its definitions, as (parameters, cases). A case is (conditions, left
-    side, right side) of an equation."""
+    """The relations that files of specs/ define: of each name its definitions, as (parameters, cases). A case is
+    (conditions, left side, right side) of an equation."""
     found = {}
     for name in files:
         with open(name, encoding="utf-8") as file:
@@ -145,17 +145,20 @@ def determines(definition, at):
     """Whether a relation's definition equates its parameter at this index, in every case."""
     parameters, equations = definition
     subject = parameters[at] if at < len(parameters) else None
-    where = {c for c, left, right in equations if subject and is_left(left, subject, []) and not speaks_of(right, subject)}
+    if subject is None:
+        return False
+    where = {c for c, left, right in equations if is_left(left, subject, []) and not speaks_of(right, subject)}
     single = {c[0] for c in where if len(c) == 1}
     return () in where or any("≢" in c and c.replace("≢", "≡") in single for c in single)
 
 
-def related(function, subject_of, relations):
-    """Whether a relation that the function promises equates the subject; subject_of gives it by the name of the result there."""
+def related(function, subject_of, relations, lets_off):
+    """Whether a relation that the function promises equates the subject. subject_of gives the subject by the name of the
+    result there; lets_off says of a relation whether its cases are all, though they are not each other's contrary."""
     for r, name, arguments in function.relations():
         for at, argument in enumerate(arguments):
             if argument in (subject_of(r), f"now {subject_of(r)}") and name in relations:
-                if all(determines(definition, at) for definition in relations[name]):
+                if all(determines(definition, at) for definition in relations[name]) or lets_off(name):
                     return True
     return False
 
@@ -168,11 +171,13 @@ def is_left(left, subject, more):
 
 
 def speaks_of(side, subject):
+    """Whether one side of an equation names the subject."""
     return re.search(rf"(?<![\w'.]){re.escape(subject)}(?![\w'])", side) is not None
 
 
-def equates_result(function, relations):
-    if related(function, lambda r: r, relations):
+def equates_result(function, relations, lets_off):
+    """Whether a promise of the function says what it returns."""
+    if related(function, lambda r: r, relations, lets_off):
         return True
     for r, left, right in function.equations():
         field = [f"{r} .0"] if function.result in ONE_FIELD else []
@@ -181,17 +186,20 @@ def equates_result(function, relations):
     return False
 
 
-def equates_at_exit(function, parameter, relations):
+def equates_at_exit(function, parameter, relations, lets_off):
+    """Whether a promise of the function says what a parameter is when it returns."""
     exit = f"({parameter} .exit)"
-    return related(function, lambda r: exit, relations) or any(is_left(left, exit, []) and exit not in right for _, left, right in function.equations())
+    if related(function, lambda r: exit, relations, lets_off):
+        return True
+    return any(is_left(left, exit, []) and exit not in right for _, left, right in function.equations())
 
 
-def faults(function, relations):
+def faults(function, relations, lets_off):
     """What is missing in a function's promise, in words."""
     if any(kind == "requires" for kind, _ in function.clauses):
         yield "has a `requires`"
-    if function.result not in ("", "()") and not equates_result(function, relations):
+    if function.result not in ("", "()") and not equates_result(function, relations, lets_off):
         yield "has no `ensures` that equates its result"
     for parameter in function.lent_for_writing():
-        if not equates_at_exit(function, parameter, relations):
+        if not equates_at_exit(function, parameter, relations, lets_off):
             yield f"has no `ensures` that equates {parameter} at exit"

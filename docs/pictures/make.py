@@ -1,5 +1,6 @@
 #!/usr/bin/env python3
-"""Makes the pictures of this folder: the frame format, the windows, the lives of frames and transactions, a frame's journey, the crates.
+"""Makes the pictures of this folder: the frame format, the windows, the lives of frames and transactions, a frame's
+journey, the crates.
 
 `make.py` writes them; `make.py --check` writes nothing and exits with 1 where a stored picture is not the one made here.
 The crates are read from crates.txt; PLACES says where each is drawn, and a crate without a place is an error.
@@ -483,7 +484,7 @@ CARD_X, HOST_X = 108, 242
 
 
 def note(p, x, y, side, tag, fill, rows=()):
-    """What one end makes of what came: a word on a colour, and lines below it. Side -1 is left of the card, 1 right of the host."""
+    """What one end makes of what came: a word on a colour, and lines below it. Side -1 is the card's, 1 the host's."""
     anchor = "end" if side < 0 else "start"
     if tag:
         wide = len(tag) * 11 * 0.67 + 10
@@ -509,7 +510,7 @@ def lost(p, x1, y1, x2, words):
 
 
 class Journey:
-    """A cell of the picture: card, network and host beside each other, time downwards. Times are pixels from its top."""
+    """A cell of the picture: card, network and host side by side, time downwards. Times are pixels from its top."""
 
     def __init__(self, p, x, y, title, height):
         self.p, self.card, self.host, self.top = p, x + CARD_X, x + HOST_X, y + 50
@@ -582,8 +583,8 @@ def repeated(p, x, y):
     j.at_card(16, "held", GREEN)
     j.frame(20, 40, "frame 0")
     middle = (j.card + j.host) / 2
-    p.path(f"M{num(middle)} {num(j.top + 30)}C{num(middle)} {num(j.top + 80)} {num(middle)} {num(j.top + 96)} {num(j.host - 1)} "
-           f"{num(j.top + 116)}", dash="4 3", arrow=True)
+    x, y = num(middle), j.top
+    p.path(f"M{x} {num(y + 30)}C{x} {num(y + 80)} {x} {num(y + 96)} {num(j.host - 1)} {num(y + 116)}", dash="4 3", arrow=True)
     j.at_host(44, "accepted", GREEN, ["judged, written,", "number marked"])
     j.ack(62, 82, "acknowledges 0")
     j.at_card(90, "released", GREY)
@@ -631,7 +632,8 @@ def in_every_case(p, x, y):
 
 
 def draw_journey():
-    p = Picture("journey.svg", 1070, 576, "A frame's journey from the card to the host, its acknowledgement, and what happens where each is lost")
+    p = Picture("journey.svg", 1070, 576,
+                "A frame's journey from the card to the host, its acknowledgement, and what happens where each is lost")
     cells = [nothing_lost, frame_lost, ack_lost, repeated, reordered, in_every_case]
     for i, cell in enumerate(cells):
         cell(p, 10 + 354 * (i % 3), 24 + 284 * (i // 3))
