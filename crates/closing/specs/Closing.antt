@@ -8,10 +8,10 @@ use lib.ListN.{length, getD}
 use Rattle.octets.specs.Octets.{field}
 use Rattle.wire.specs.Format.{Message, nextHeader, frameMost}
 use Rattle.wire.specs.Reading.{follows, dataEnd, messageAt}
-use Rattle.terms.specs.declared.Open.{Open}
-use Rattle.terms.specs.Terms.{free}
-use Rattle.transactions.specs.declared.Verdict.{Verdict}
-use Rattle.transactions.specs.Transactions.{Transactions, verdict}
+use Rattle.host.specs.declared.Open.{Open}
+use Rattle.host.specs.Terms.{free}
+use Rattle.host.specs.declared.Verdict.{Verdict}
+use Rattle.host.specs.Transactions.{Transactions, verdict}
 use Rattle.closing.specs.declared.Closing.{Closing}
 
 -- Whether two places of the table hold the same.

@@ -11,7 +11,7 @@ use lib.ListN.{length, length-replicate, getD-replicate}
 use Rattle.seq.specs.Ring.{frameSpace}
 use Rattle.bitmap.specs.Marks.{leading}
 use Rattle.bitmap.proofs.Marks.{mark-of-zero, leading-le}
-use Rattle.terms.specs.Terms.{free}
+use Rattle.host.specs.Terms.{free}
 use Rattle.host.specs.declared.Opened.{Opened}
 use Rattle.host.specs.Host.{fresh, openedOf}
 use Rattle.send_window.specs.Window.{emptyWindow, unreleased}

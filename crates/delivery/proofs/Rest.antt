@@ -27,7 +27,7 @@ use Rattle.bitmap.specs.Marks.{leading}
 use Rattle.bitmap.proofs.Marks.{leading-le, leading-holds, leading-stops, leading-is, leading-same}
 use Rattle.wire.specs.Writing.{frameOf, ackFrame}
 use Rattle.wire.proofs.Format.{needed-pos}
-use Rattle.transactions.specs.Transactions.{Transactions}
+use Rattle.host.specs.Transactions.{Transactions}
 use Rattle.host.specs.declared.Pair.{Pair}
 use Rattle.host.specs.declared.Answer.{Answer}
 use Rattle.host.specs.Host.{transactionsOf}

@@ -8,8 +8,8 @@ use Rattle.octets.specs.Octets.{little, value, field, inside, written}
 use Rattle.wire.specs.Format.{headOf, needed, nextHeader}
 use Rattle.wire.specs.Reading.{addressed, follows, messageAt, messagesFrom, headingOf, readFrame}
 use Rattle.wire.specs.Writing.{frameHead, messageHead, laid, frameOf, roomFor, firstMessage, nextMessage}
-use Rattle.terms.specs.Terms.{agrees, termsRefusal, addressRefusal}
-use Rattle.transactions.specs.Transactions.{fills, refusing, closing, holding, verdictOf, verdict, after}
+use Rattle.host.specs.Terms.{agrees, termsRefusal, addressRefusal}
+use Rattle.host.specs.Transactions.{fills, refusing, closing, holding, verdictOf, verdict, after}
 use Rattle.host.specs.Host.{effect, takeIn, takeAll, accepting, byNumber, receiveOf}
 use Rattle.send_window.specs.Window.{emptyWindow}
 use Rattle.sendings.specs.Sendings.{noSendings, openingRefusal, opening, takes, adding}

@@ -4,7 +4,7 @@ use mathlib.Core.Bool.{true, cond}
 use mathlib.Core.List.{List, [], _∷_}
 use lib.Dec.{eqb}
 use lib.ListN.{take, replicate}
-use Rattle.terms.specs.Terms.{free}
+use Rattle.host.specs.Terms.{free}
 use Rattle.wire.specs.Format.{Message}
 use Rattle.seq.specs.Ring.{distance, frameSpace}
 use Rattle.wire.specs.Reading.{

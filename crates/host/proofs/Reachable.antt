@@ -27,11 +27,12 @@ use Rattle.wire.specs.Format.{Message, headOf}
 use Rattle.wire.specs.Reading.{number, flags, refusalOf}
 use Rattle.wire.proofs.Reading.{readable}
 use Rattle.wire.proofs.RoundTrip.{Fits, AllFit, messages-fit}
-use Rattle.terms.specs.declared.Open.{Open}
-use Rattle.terms.specs.Terms.{free}
-use Rattle.transactions.specs.declared.Verdict.{Verdict}
-use Rattle.transactions.specs.Transactions.{fills, closing, holding, Transactions, verdict, after}
-use Rattle.transactions.proofs.Judging.{in-window, closes, holds, fills-left}
+use Rattle.host.specs.declared.Open.{Open}
+use Rattle.host.specs.Terms.{free}
+use Rattle.host.specs.declared.Verdict.{Verdict}
+use Rattle.host.specs.Transactions.{fills, closing, holding, Transactions, verdict, after}
+use Rattle.host.proofs.Passing.{agreed-count}
+use Rattle.host.proofs.Judging.{in-window, agreeing, closes, holds, fills-left}
 use Rattle.host.specs.declared.Pair.{Pair}
 use Rattle.host.specs.Host.{
   fresh,
@@ -191,15 +192,26 @@ verdict-keeps t size m s f e = go (fills o (headOf m)) refl
     i-is : i ≡ (t .lowest + d) % 32
     i-is = place-of (t .lowest) (m .trans) (s .lowest-fits) (f .trans-fits)
 
+    fewer : (o .received ≡ 0) ⊎ (o .received < m .count)
+    fewer = of (s .each i)
+      where
+        of : (o ≡ free) ⊎ Underway o → (o .received ≡ 0) ⊎ (o .received < m .count)
+        of (inl q) = inl (ap (λ (x : Open). x .received) q)
+        of (inr u) =
+            let c = agreed-count o (headOf m) (agreeing (t .lowest) (t .closed) o (headOf m) (length (m .bytes)) size e)
+            (λ q. omega (arith, q, u .some-received)) in
+            inr (omega (arith, c, u .some-to-come))
+
     go : (b : Bool) → fills o (headOf m) ≡ b → Orderly (after t m (verdict t size m))
     go true z =
         rw (closes (t .lowest) (t .closed) o (headOf m) (length (m .bytes)) size e z)
         (closing-keeps t s i d (window .0) i-is (window .1))
     go false z =
+        let more : suc (o .received) < m .count = fills-left o (headOf m) fewer z in
         rw (holds (t .lowest) (t .closed) o (headOf m) (length (m .bytes)) size e z)
         (holding-keeps t s i d (window .0) i-is (window .1) _ (record {
-          some-received = omega arith;
-          some-to-come = fills-left o (headOf m) z;
+          some-received = omega (arith, more, f .count-fits);
+          some-to-come = omega (arith, more, f .count-fits);
           count-fits = f .count-fits;
           address-fits = f .address-fits;
           value-fits = f .value-fits;

@@ -1,18 +1,19 @@
 -- The charging host: opening a pair, receiving a frame, and the acknowledgement that an answer calls for.
-use Prim.Native.Nat.{ℕ, zero, suc, _+_, _/_, _^_}
+use Prim.Native.Nat.{ℕ, zero, suc, _+_}
 use mathlib.Core.Bool.{Bool, true, false, cond, _||_}
 use mathlib.Core.List.{List, [], _∷_}
 use lib.Dec.{eqb, leb, ltb}
 use lib.ListN.{length, replicate}
-use Rattle.seq.specs.Ring.{distance, advance, frameSpace}
-use Rattle.bitmap.specs.Marks.{mark, withMark, trailingOnes}
+use Rattle.seq.specs.Ring.{distance, frameSpace}
+use Rattle.bitmap.specs.Marks.{mark}
+use Rattle.bitmap.specs.Window.{markedAndMoved}
 use Rattle.octets.specs.Octets.{little, written}
 use Rattle.wire.specs.Format.{Message}
 use Rattle.wire.specs.Reading.{number, flags, addressed, Read, bad, good, readFrame}
 use Rattle.wire.specs.Writing.{ackFrame}
-use Rattle.terms.specs.Terms.{free}
-use Rattle.transactions.specs.declared.Verdict.{Verdict}
-use Rattle.transactions.specs.Transactions.{Transactions, verdict, after}
+use Rattle.host.specs.Terms.{free}
+use Rattle.host.specs.declared.Verdict.{Verdict}
+use Rattle.host.specs.Transactions.{Transactions, verdict, after}
 use Rattle.host.specs.declared.Pair.{Pair}
 use Rattle.host.specs.declared.Refusal.{Refusal}
 use Rattle.host.specs.declared.Sums.{Sums}
@@ -100,14 +101,13 @@ refused number place = Refused (record { number = number; place = place })
 -- The frame's number is marked, and next moves past every consecutive accepted number.
 unfoldable pub accepting : Pair → ℕ → Tally → Received
 accepting p num t =
-    let marked = withMark 64 (p .marks) (distance frameSpace (p .next .0) num) in
-    let run = trailingOnes 64 marked in
+    let window = markedAndMoved frameSpace 64 (p .next .0) (p .marks) num in
     record {
       pair = record {
         own = p .own;
         peer = p .peer;
-        next = record { 0 = advance frameSpace (p .next .0) run };
-        marks = marked / 2 ^ run;
+        next = record { 0 = window .first };
+        marks = window .marks;
         lowest = record { 0 = t .transactions .lowest };
         closed = t .transactions .closed;
         table = t .transactions .table;
@@ -161,8 +161,18 @@ rangeOf (Refused r) = record { start = record { 0 = 0 }; count = 0 }
 
 -- An acknowledgement is due where the range is not empty; it goes from the pair's own ID to the peer's and carries the number
 -- that the caller gives.
-unfoldable pub acknowledgementOf : ℕ → ℕ → Answer → ℕ → Acknowledgement
-acknowledgementOf own peer a num = record {
+unfoldable pub acknowledgementOf : Pair → Answer → ℕ → Acknowledgement
+acknowledgementOf p a num = record {
   due = ltb 0 (rangeOf a .count);
-  frame = ackFrame peer own num (rangeOf a .start .0) (rangeOf a .count);
+  frame = ackFrame (p .peer) (p .own) num (rangeOf a .start .0) (rangeOf a .count);
 }
+
+-- ---- answers as numbers
+
+-- Kind, number, messages, data bytes, completed transactions, refusal and place. The kinds are 1 for accepted, 2 for again, 3 for no
+-- messages and 4 for refused; what a kind does not have is 0.
+abbrev pub answerWords : Answer → List ℕ
+answerWords (Accepted n sums) = 1 ∷ n .0 ∷ sums .messages ∷ sums .bytes ∷ sums .completed ∷ 0 ∷ 0 ∷ []
+answerWords (Again n) = 2 ∷ n .0 ∷ 0 ∷ 0 ∷ 0 ∷ 0 ∷ 0 ∷ []
+answerWords NoMessages = 3 ∷ 0 ∷ 0 ∷ 0 ∷ 0 ∷ 0 ∷ 0 ∷ []
+answerWords (Refused r) = 4 ∷ 0 ∷ 0 ∷ 0 ∷ 0 ∷ r .number ∷ r .place ∷ []

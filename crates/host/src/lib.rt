@@ -1,11 +1,34 @@
-// The charging host's end of a pair: what it knows and answers, how it is opened, and the acknowledgement that an answer calls
-// for. Assumes nothing. It promises specs/Host.antt, where receiving a frame is defined too, which the crate reception does;
-// specs/Reachable.antt is kept by all of it.
+// The charging host's end of a pair by value: what it knows, and what it answers. Types only. What opening, receiving and
+// acknowledging come to is defined in specs/: Terms.antt and Transactions.antt for one message, Host.antt for frames. What
+// specs/Reachable.antt says is kept by all of it.
 use seq::FrameNo;
 use seq::TransNo;
-use terms::Open;
-ghost use mathlib.Core.Path.{_≡_};
-ghost use Rattle.host.specs.Host.{fresh, refusedOpening, openedOf, rangeOf, acknowledgementOf};
+
+// An open transaction: what its first message said of it, and how many were received.
+pub struct Open {
+    pub address: u32,
+    pub value: u32,
+    pub count: u16,
+    pub received: u16,
+}
+
+// A place that holds no transaction.
+pub const FREE: Open = Open {
+    address: 0,
+    value: 0,
+    count: 0,
+    received: 0,
+};
+
+// The verdict on a message: its refusal, or 0; whether it completes its transaction; and the window and the transaction's place
+// after it.
+pub struct Verdict {
+    pub refusal: u8,
+    pub done: bool,
+    pub lowest: TransNo,
+    pub closed: u32,
+    pub place: Open,
+}
 
 // What the host knows of its peer's frames and transactions. Bit i of marks stands for the frame next + i and is set where that
 // was accepted; bit i of closed for the transaction lowest + i. An open transaction is in the place of the table that its number
@@ -57,83 +80,8 @@ pub struct Range {
     pub count: u8,
 }
 
-const NO_RANGE: Range = Range {
-    start: FrameNo(0),
-    count: 0,
-};
-
 // Ten bytes to be sent where due.
 pub struct Acknowledgement {
     pub due: bool,
     pub frame: [u8; 10],
-}
-
-fn fresh_pair(own: u16, peer: u16) -> Pair
-    ensures { λ r. ⌜ r ≡ fresh own peer ⌝ }
-{
-    Pair {
-        own,
-        peer,
-        next: FrameNo(0),
-        marks: 0,
-        lowest: TransNo(0),
-        closed: 0,
-        table: [terms::FREE; 32],
-    }
-}
-
-// A refused opening: a fresh pair with both IDs 0.
-fn refused_opening() -> Opened
-    ensures { λ r. ⌜ r ≡ refusedOpening ⌝ }
-{
-    Opened {
-        pair: fresh_pair(0, 0),
-        refusal: Refusal {
-            number: refusal::ID_ZERO,
-            place: 0,
-        },
-    }
-}
-
-// Opens a pair; refusal 13 where an ID is 0.
-pub fn open_pair(own: u16, peer: u16) -> Opened
-    ensures { λ r. ⌜ r ≡ openedOf own peer ⌝ }
-{
-    if own == 0 {
-        return refused_opening();
-    }
-    if peer == 0 {
-        return refused_opening();
-    }
-    Opened {
-        pair: fresh_pair(own, peer),
-        refusal: Refusal {
-            number: 0,
-            place: 0,
-        },
-    }
-}
-
-// The frame numbers that an answer acknowledges.
-fn range_of(answer: Answer) -> Range
-    ensures { λ r. ⌜ r ≡ rangeOf answer ⌝ }
-{
-    match answer {
-        Answer::Accepted(n, _) => Range { start: n, count: 1 },
-        Answer::Again(n) => Range { start: n, count: 1 },
-        Answer::NoMessages => NO_RANGE,
-        Answer::Refused(_) => NO_RANGE,
-    }
-}
-
-// The acknowledgement that an answer calls for, from an end whose next message frame will have this number.
-pub fn acknowledge(own: u16, peer: u16, answer: Answer, number: FrameNo) -> Acknowledgement
-    ensures { λ r. ⌜ r ≡ acknowledgementOf own peer answer (number .0) ⌝ }
-{
-    let range = range_of(answer);
-    let start = range.start;
-    Acknowledgement {
-        due: 0 < range.count,
-        frame: wire_headers::ack_frame(peer, own, number, start, range.count),
-    }
 }

@@ -9,9 +9,9 @@ use Rattle.bitmap.specs.Marks.{withMark}
 use Rattle.octets.specs.Octets.{field}
 use Rattle.wire.specs.Format.{Message, nextHeader, frameMost}
 use Rattle.wire.specs.Reading.{follows, dataEnd, messageAt}
-use Rattle.terms.specs.Terms.{free}
-use Rattle.transactions.specs.declared.Verdict.{Verdict}
-use Rattle.transactions.specs.Transactions.{Transactions, verdict, after}
+use Rattle.host.specs.Terms.{free}
+use Rattle.host.specs.declared.Verdict.{Verdict}
+use Rattle.host.specs.Transactions.{Transactions, verdict, after}
 use Rattle.judging.specs.declared.Judged.{Judged}
 
 -- A refusal's number and the index of the message that it is about; all else is 0.

@@ -12,8 +12,8 @@ use lib.ListN.{length, getD}
 use Rattle.seq.specs.Ring.{advance, transSpace}
 use Rattle.text.specs.Pieces.{Filled, from, putAll}
 use Rattle.text.proofs.Pieces.{all-append}
-use Rattle.terms.specs.declared.Open.{Open}
-use Rattle.terms.specs.Terms.{free}
+use Rattle.host.specs.declared.Open.{Open}
+use Rattle.host.specs.Terms.{free}
 use Rattle.pair_text.specs.PairText.{openPieces, placePieces, tablePieces}
 
 -- ---- one place

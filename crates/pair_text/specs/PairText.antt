@@ -8,8 +8,8 @@ use lib.ListN.{getD}
 use Rattle.text_answer.specs.Decimal.{decimal}
 use Rattle.io.specs.Digits.{digits}
 use Rattle.seq.specs.Ring.{advance, transSpace}
-use Rattle.terms.specs.declared.Open.{Open}
-use Rattle.terms.specs.Terms.{free}
+use Rattle.host.specs.declared.Open.{Open}
+use Rattle.host.specs.Terms.{free}
 use Rattle.host.specs.declared.Pair.{Pair}
 
 -- `own `, ` peer `, ` next `, ` marks ` in 16 digits

@@ -6,7 +6,7 @@ use mathlib.Core.List.{List, []}
 use lib.Dec.{eqb, leb, ltb}
 use Rattle.bitmap.specs.Marks.{mark}
 use Rattle.wire.specs.Reading.{addressed, readFrame, refusalOf}
-use Rattle.transactions.specs.Transactions.{Transactions}
+use Rattle.host.specs.Transactions.{Transactions}
 use Rattle.host.specs.declared.Answer.{Answer}
 use Rattle.host.specs.declared.Answer.the-variants.{Again}
 use Rattle.host.specs.declared.Pair.{Pair}

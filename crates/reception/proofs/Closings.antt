@@ -13,10 +13,10 @@ use lib.Seq.{set-getD}
 use Rattle.octets.specs.Octets.{field}
 use Rattle.wire.specs.Format.{nextHeader}
 use Rattle.wire.specs.Reading.{follows, dataEnd, messageAt}
-use Rattle.terms.specs.declared.Open.{Open}
-use Rattle.terms.specs.Terms.{free}
-use Rattle.transactions.specs.declared.Verdict.{Verdict}
-use Rattle.transactions.specs.Transactions.{after}
+use Rattle.host.specs.declared.Open.{Open}
+use Rattle.host.specs.Terms.{free}
+use Rattle.host.specs.declared.Verdict.{Verdict}
+use Rattle.host.specs.Transactions.{after}
 use Rattle.judging.specs.declared.Judged.{Judged}
 use Rattle.judging.specs.Judging.{notedOf, judgedOn, judgedFrom}
 use Rattle.judging.proofs.Judging.{judged-last, judged-more}

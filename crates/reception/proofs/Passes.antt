@@ -18,8 +18,8 @@ use Rattle.wire.specs.Reading.{follows, dataEnd, messageAt, prepend, messagesFr
 use Rattle.wire.proofs.Format.{next-after}
 use Rattle.wire.proofs.Reading.{Headed, unread, headed}
 use Rattle.wire_read.proofs.Finding.{step-last, step-more}
-use Rattle.transactions.specs.declared.Verdict.{Verdict}
-use Rattle.transactions.specs.Transactions.{Transactions, verdict, after}
+use Rattle.host.specs.declared.Verdict.{Verdict}
+use Rattle.host.specs.Transactions.{Transactions, verdict, after}
 use Rattle.host.specs.Host.{effect, Tally, takeIn, fine, wrong, takeAll}
 use Rattle.host.proofs.Receiving.{length-effect}
 use Rattle.judging.specs.declared.Judged.{Judged}

@@ -12,9 +12,9 @@ use Rattle.bitmap.proofs.Marks.{leading-mono}
 use Rattle.octets.specs.Octets.{little}
 use Rattle.octets.proofs.Octets.{length-little, written-inside}
 use Rattle.wire.specs.Format.{headOf}
-use Rattle.terms.specs.declared.Open.{Open}
-use Rattle.transactions.specs.declared.Verdict.{Verdict}
-use Rattle.transactions.specs.Transactions.{closing, holding, Transactions, verdict, after}
+use Rattle.host.specs.declared.Open.{Open}
+use Rattle.host.specs.declared.Verdict.{Verdict}
+use Rattle.host.specs.Transactions.{closing, holding, Transactions, verdict, after}
 use Rattle.host.specs.Host.{Tally, effect, takeIn, fine, takeAll}
 use Rattle.delivery.specs.Book.{
   MessageRecord,

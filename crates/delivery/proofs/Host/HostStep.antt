@@ -27,9 +27,10 @@ use Rattle.bitmap.proofs.Marks.{
   window-marks,
 }
 use Rattle.wire.specs.Format.{Message, headOf, needed}
-use Rattle.terms.specs.declared.Open.{Open}
-use Rattle.terms.specs.Terms.{free, agrees, termsRefusal, addressRefusal}
-use Rattle.transactions.specs.Transactions.{fills, closing, holding, verdictOf, Transactions, verdict, after}
+use Rattle.wire.proofs.Format.{needed-pos}
+use Rattle.host.specs.declared.Open.{Open}
+use Rattle.host.specs.Terms.{free, agrees, termsRefusal, addressRefusal}
+use Rattle.host.specs.Transactions.{fills, closing, holding, verdictOf, Transactions, verdict, after}
 use Rattle.delivery.specs.Book.{MessageRecord, Transaction, noTransaction, allMessagesIn}
 use Rattle.delivery.proofs.Book.Counts.{count, not-full-none}
 

@@ -6,8 +6,8 @@ use Rattle.octets.specs.Octets.{little, value, field, inside, written}
 use Rattle.wire.specs.Format.{headOf, needed, nextHeader}
 use Rattle.wire.specs.Reading.{addressed, follows, messageAt, messagesFrom, headingOf, readFrame}
 use Rattle.wire.specs.Writing.{frameHead, messageHead, laid, frameOf, ackFrame, roomFor, firstMessage, nextMessage}
-use Rattle.terms.specs.Terms.{agrees, termsRefusal, addressRefusal}
-use Rattle.transactions.specs.Transactions.{fills, refusing, closing, holding, verdictOf, verdict, after}
+use Rattle.host.specs.Terms.{agrees, termsRefusal, addressRefusal}
+use Rattle.host.specs.Transactions.{fills, refusing, closing, holding, verdictOf, verdict, after}
 use Rattle.host.specs.Host.{fresh, openedOf, effect, takeIn, takeAll, accepting, byNumber, receiveOf, acknowledgementOf}
 use Rattle.send_window.specs.Window.{emptyWindow, held, beforeHeld, sealing, acknowledgedBy, releasing, acknowledging}
 use Rattle.sendings.specs.Sendings.{

@@ -1,0 +1,80 @@
+-- The host's transactions: the verdict on a message, and what an accepted one does to its transaction and to the window of 32
+-- transactions from the lowest one not complete on.
+use Prim.Native.Nat.{ℕ, suc, _%_}
+use mathlib.Core.Bool.{Bool, true, false, cond}
+use mathlib.Core.List.{List}
+use lib.Dec.{eqb}
+use lib.ListN.{length, getD, set}
+use Rattle.seq.specs.Ring.{distance, transSpace}
+use Rattle.bitmap.specs.Marks.{withMark}
+use Rattle.bitmap.specs.Window.{moved}
+use Rattle.wire.specs.declared.MessageHeader.{MessageHeader}
+use Rattle.wire.specs.Format.{Message, headOf, needed}
+use Rattle.host.specs.declared.Open.{Open}
+use Rattle.host.specs.Terms.{free, messageRefusal}
+use Rattle.host.specs.declared.Verdict.{Verdict}
+
+-- Whether the messages received equal the count, with this one. (Where more were received already, which no run reaches, they
+-- never do.)
+unfoldable pub fills : Open → MessageHeader → Bool
+fills o h = eqb (needed (h .count)) (suc (o .received))
+
+-- A transaction's place with one message more, which does not complete it. Received has 16 bits and counts modulo 65,536: in a
+-- pair that a run reaches it is below the count and does not come round.
+abbrev pub oneMore : Open → MessageHeader → Open
+oneMore o h = record { count = h .count; address = h .«completion_address»; value = h .«completion_value»; received = suc (o .received) % 65536 }
+
+-- The verdict on a message: refused and nothing changed; or its transaction is complete, so that it is closed and the window
+-- moves past consecutive closed ones; or it is open with one message more.
+unfoldable pub refusing : ℕ → ℕ → ℕ → Open → Verdict
+refusing r lowest closed o = record { refusal = r; done = false; lowest = record { 0 = lowest }; closed = closed; place = o }
+
+unfoldable pub closing : ℕ → ℕ → ℕ → Verdict
+closing lowest closed d =
+    let window = moved transSpace 32 lowest (withMark 32 closed d) in
+    record {
+      refusal = 0;
+      done = true;
+      lowest = record { 0 = window .first };
+      closed = window .marks;
+      place = free;
+    }
+
+unfoldable pub holding : ℕ → ℕ → Open → MessageHeader → Verdict
+holding lowest closed o h = record {
+  refusal = 0;
+  done = false;
+  lowest = record { 0 = lowest };
+  closed = closed;
+  place = oneMore o h;
+}
+
+abbrev pub decided : ℕ → ℕ → ℕ → ℕ → Open → MessageHeader → Verdict
+decided r d lowest closed o h =
+    cond (eqb r 0) (cond (fills o h) (closing lowest closed d) (holding lowest closed o h)) (refusing r lowest closed o)
+
+unfoldable pub verdictOf : ℕ → ℕ → Open → MessageHeader → ℕ → ℕ → Verdict
+verdictOf lowest closed o h len size =
+    let d = distance transSpace lowest (h .trans .0) in
+    decided (messageRefusal d closed o h len size) d lowest closed o h
+
+-- ---- the whole table
+
+-- What a host knows of transactions: the lowest not complete, marks of closed ones from there on, and the open ones, each in the
+-- place that its number modulo 32 gives.
+pub record Transactions : Type 0 where
+  pub lowest : ℕ
+  pub closed : ℕ
+  pub table : List Open
+
+-- The verdict on a message, and the transactions after it.
+unfoldable pub verdict : Transactions → ℕ → Message → Verdict
+verdict t size m =
+    verdictOf (t .lowest) (t .closed) (getD (t .table) (m .trans % 32) free) (headOf m) (length (m .bytes)) size
+
+unfoldable pub after : Transactions → Message → Verdict → Transactions
+after t m v = record {
+  lowest = v .lowest .0;
+  closed = v .closed;
+  table = set (t .table) (m .trans % 32) (v .place);
+}

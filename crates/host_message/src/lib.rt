@@ -1,0 +1,145 @@
+// One message at the host: refusals 7 to 12, whether it completes its transaction, and the verdict with the state that it leaves.
+// Assumes nothing of the state that it is held against, which may be one that no run reaches. It promises host/specs/Terms.antt,
+// messageRefusal, and host/specs/Transactions.antt, fills and verdictOf.
+use bitmap::word32;
+use host::Open;
+use host::Verdict;
+use seq::TransNo;
+use wire::MessageHeader;
+ghost use mathlib.Core.Path.{_≡_};
+ghost use Rattle.host.specs.Terms.{agrees, termsRefusal, addressRefusal, messageRefusal};
+ghost use Rattle.host.specs.Transactions.{fills, oneMore, closing, verdictOf};
+
+// Whether the header says what the transaction's first message said, if there was one.
+fn has_same_terms(o: Open, h: MessageHeader) -> bool
+    ensures { λ r. ⌜ r ≡ agrees o h ⌝ }
+{
+    if o.received == 0 {
+        return true;
+    }
+    if o.count != h.count {
+        return false;
+    }
+    if o.address != h.completion_address {
+        return false;
+    }
+    o.value == h.completion_value
+}
+
+// Refusals 7 to 10 of a message whose transaction lies d past the lowest one that is not complete.
+fn terms_refusal(d: u32, closed: u32, o: Open, h: MessageHeader, len: u16) -> u8
+    ensures { λ r. ⌜ r ≡ termsRefusal d closed o h len ⌝ }
+{
+    if 32 <= d {
+        return refusal::TRANSACTION_OUTSIDE_WINDOW;
+    }
+    if word32::is_marked(closed, d) {
+        return refusal::TRANSACTION_CLOSED;
+    }
+    if !has_same_terms(o, h) {
+        return refusal::TRANSACTION_DIFFERS;
+    }
+    if h.count == 0 {
+        if 0 < len {
+            return refusal::BARE_WITH_DATA;
+        }
+    }
+    0
+}
+
+// Refusals 11 and 12 against a memory of size bytes. The sums are taken in words wide enough for them.
+fn address_refusal(size: usize, h: MessageHeader, len: u16) -> u8
+    ensures { λ r. ⌜ r ≡ addressRefusal size h len ⌝ }
+{
+    if size < h.data_address as usize + len as usize {
+        return refusal::DATA_OUTSIDE_MEMORY;
+    }
+    if size < h.completion_address as usize + 4 {
+        return refusal::COMPLETION_OUTSIDE_MEMORY;
+    }
+    0
+}
+
+// The first refusal of a message with len data bytes, 0 for none.
+pub fn first_refusal(d: u32, closed: u32, o: Open, h: MessageHeader, len: u16, size: usize) -> u8
+    ensures { λ r. ⌜ r ≡ messageRefusal d closed o h len size ⌝ }
+{
+    let terms = terms_refusal(d, closed, o, h, len);
+    if terms == 0 {
+        return address_refusal(size, h, len);
+    }
+    terms
+}
+
+// Whether the messages received equal the count, with this one: then it completes its transaction.
+pub fn completes(o: Open, h: MessageHeader) -> bool
+    ensures { λ r. ⌜ r ≡ fills o h ⌝ }
+{
+    if h.count == 0 {
+        return o.received == 0;
+    }
+    h.count as u32 == o.received as u32 + 1
+}
+
+// The place of a transaction with one message more, which does not complete it.
+pub fn one_more(o: Open, h: MessageHeader) -> Open
+    ensures { λ r. ⌜ r ≡ oneMore o h ⌝ }
+{
+    Open {
+        address: h.completion_address,
+        value: h.completion_value,
+        count: h.count,
+        received: std::num::wrapping_add_u16(o.received, 1),
+    }
+}
+
+// The verdict on a message that completes its transaction, which lies d past the lowest one that is not complete.
+fn closed_after(lowest: TransNo, closed: u32, d: u32) -> Verdict
+    ensures { λ r. ⌜ r ≡ closing (lowest .0) closed d ⌝ }
+{
+    let marked = word32::with_mark(closed, d);
+    let run = word32::trailing_ones(marked);
+    Verdict {
+        refusal: 0,
+        done: true,
+        lowest: lowest.advance(run),
+        closed: word32::shifted(marked, run),
+        place: host::FREE,
+    }
+}
+
+// The verdict on a message with len data bytes, against the window and the place of its transaction in the table, and a memory
+// of size bytes.
+pub fn judge(
+    lowest: TransNo,
+    closed: u32,
+    o: Open,
+    h: MessageHeader,
+    len: u16,
+    size: usize,
+) -> Verdict
+    ensures { λ r. ⌜ r ≡ verdictOf (lowest .0) closed o h len size ⌝ }
+{
+    let trans = h.trans;
+    let d = trans.distance(lowest);
+    let refusal = first_refusal(d, closed, o, h, len, size);
+    if refusal != 0 {
+        return Verdict {
+            refusal,
+            done: false,
+            lowest,
+            closed,
+            place: o,
+        };
+    }
+    if completes(o, h) {
+        return closed_after(lowest, closed, d);
+    }
+    Verdict {
+        refusal: 0,
+        done: false,
+        lowest,
+        closed,
+        place: one_more(o, h),
+    }
+}
