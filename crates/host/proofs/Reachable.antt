@@ -52,20 +52,20 @@ use Rattle.host.specs.Host.{
 use Rattle.host.specs.Reachable.{Underway, Orderly, Reachable}
 use Rattle.host.proofs.Receiving.{reading, received-refused, received-none, received-some}
 
--- ---- places of the table
+-- ---- entries of the table
 
--- the space of transaction numbers is a multiple of 32: a place goes on with the numbers where those come round
-pub place-is : (lowest j : ℕ) → advance transSpace lowest j % 32 ≡ (lowest + j) % 32
+-- the space of transaction numbers is a multiple of 32: an entry goes on with the numbers where those come round
+pub entry-is : (lowest j : ℕ) → advance transSpace lowest j % 32 ≡ (lowest + j) % 32
 unfolding advance
-place-is lowest j = omega arith
+entry-is lowest j = omega arith
 
--- so a transaction's place is as far past the lowest one's as the transaction is
-pub place-of : (lowest trans : ℕ) → lowest < transSpace → trans < transSpace
+-- so a transaction's entry is as far past the lowest one's as the transaction is
+pub entry-of : (lowest trans : ℕ) → lowest < transSpace → trans < transSpace
     → trans % 32 ≡ (lowest + distance transSpace lowest trans) % 32
 unfolding distance
-place-of lowest trans h k = omega arith
+entry-of lowest trans h k = omega arith
 
--- one place set
+-- one entry set
 each-set : (table : List Open) (i : ℕ) (o : Open) → i < length table → (o ≡ free) ⊎ Underway o
     → ((k : ℕ) → (getD table k free ≡ free) ⊎ Underway (getD table k free)) → (k : ℕ)
     → (getD (set table i o) k free ≡ free) ⊎ Underway (getD (set table i o) k free)
@@ -86,11 +86,11 @@ each-set table i o l ok all k = go (decLe k i) (decLe i k)
 
 -- ---- one message
 
--- a message of a transaction in the window that is not closed, and its place
+-- a message of a transaction in the window that is not closed, and its entry
 module _ (t : Transactions) (s : Orderly t) (i d : ℕ) (near : d < 32) (i-is : i ≡ (t .lowest + d) % 32)
     (clear : mark (t .closed) d ≡ false) where
   in-table : i < length (t .table)
-  in-table = omega (arith, s .places)
+  in-table = omega (arith, s .entries)
 
   -- the transaction is closed, and the window moves
   marked : ℕ
@@ -100,7 +100,7 @@ module _ (t : Transactions) (s : Orderly t) (i d : ℕ) (near : d < 32) (i-is : 
   unfolding marked
   marked-fits = withMark-lt 32 (t .closed) d (s .closed-fits)
 
-  -- the places of all that are marked are free
+  -- the entries of all that are marked are free
   marked-free : (j : ℕ) → mark marked j ≡ true → getD (set (t .table) i free) ((t .lowest + j) % 32) free ≡ free
   unfolding marked
   marked-free j m = go (decLe ((t .lowest + j) % 32) i) (decLe i ((t .lowest + j) % 32))
@@ -137,7 +137,7 @@ module _ (t : Transactions) (s : Orderly t) (i d : ℕ) (near : d < 32) (i-is : 
       record {
         lowest-fits = omega arith;
         closed-fits = moved-lt 32 marked marked-fits;
-        places = length-set (t .table) i free ∙ s .places;
+        entries = length-set (t .table) i free ∙ s .entries;
         lowest-open = moved-clear 32 marked marked-fits;
         each = each-set (t .table) i free in-table (inl refl) (s .each);
         closed-free = moved-free;
@@ -156,7 +156,7 @@ module _ (t : Transactions) (s : Orderly t) (i d : ℕ) (near : d < 32) (i-is : 
       record {
         lowest-fits = s .lowest-fits;
         closed-fits = s .closed-fits;
-        places = length-set (t .table) i o ∙ s .places;
+        entries = length-set (t .table) i o ∙ s .entries;
         lowest-open = s .lowest-open;
         each = each-set (t .table) i o in-table (inr u) (s .each);
         closed-free = still-free;
@@ -190,7 +190,7 @@ verdict-keeps t size m s f e = go (fills o (headOf m)) refl
     window = in-window (t .lowest) (t .closed) o (headOf m) (length (m .bytes)) size e
 
     i-is : i ≡ (t .lowest + d) % 32
-    i-is = place-of (t .lowest) (m .trans) (s .lowest-fits) (f .trans-fits)
+    i-is = entry-of (t .lowest) (m .trans) (s .lowest-fits) (f .trans-fits)
 
     fewer : (o .received ≡ 0) ⊎ (o .received < m .count)
     fewer = of (s .each i)
@@ -222,10 +222,10 @@ verdict-keeps t size m s f e = go (fills o (headOf m)) refl
 pub received-fits : (o : Open) → Underway o → o .received < 2 ^ 16
 received-fits o u = omega (arith, u .some-to-come, u .count-fits)
 
--- a place that is not free is that of a transaction in the window that is not closed
-pub open-place : (t : Transactions) (k : ℕ) → Orderly t → k < 32 → getD (t .table) k free ≢ free
+-- an entry that is not free is that of a transaction in the window that is not closed
+pub open-entry : (t : Transactions) (k : ℕ) → Orderly t → k < 32 → getD (t .table) k free ≢ free
     → (j : ℕ) × (j < 32) × ((t .lowest + j) % 32 ≡ k) × (mark (t .closed) j ≡ false)
-open-place t k s l ne = (j, omega arith, is, go (mark (t .closed) j) refl)
+open-entry t k s l ne = (j, omega arith, is, go (mark (t .closed) j) refl)
   where
     j : ℕ
     j = (k + (32 - t .lowest % 32)) % 32
@@ -283,7 +283,7 @@ fresh-reachable own peer h k ids =
       transactions = record {
         lowest-fits = omega arith;
         closed-fits = omega arith;
-        places = refl;
+        entries = refl;
         lowest-open = mark-of-zero 0;
         each = λ j. inl (free-at 32 j);
         closed-free = λ j l m. free-at 32 ((0 + j) % 32);

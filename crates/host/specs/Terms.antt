@@ -1,4 +1,4 @@
--- What a message is refused for at the host, held against the window of 32 transactions, its transaction's place in the table, and
+-- What a message is refused for at the host, held against the window of 32 transactions, its transaction's entry in the table, and
 -- the memory: refusals 7 to 12.
 use Prim.Native.Nat.{ℕ, _+_}
 use mathlib.Core.Bool.{Bool, cond, not, _&&_, _||_}
@@ -7,7 +7,7 @@ use Rattle.bitmap.specs.Marks.{mark}
 use Rattle.wire.specs.declared.MessageHeader.{MessageHeader}
 use Rattle.host.specs.declared.Open.{Open}
 
--- A place of the table with no open transaction in it.
+-- An entry of the table with no open transaction in it.
 abbrev pub free : Open
 free = record { count = 0; address = 0; value = 0; received = 0 }
 
@@ -18,7 +18,7 @@ agrees o h =
     || (eqb (o .count) (h .count) && (eqb (o .address) (h .«completion_address») && eqb (o .value) (h .«completion_value»)))
 
 -- Refusals 7 to 10 of a message with `len` data bytes, 0 for none. `d` is how far its transaction lies past the lowest one that
--- is not complete, `closed` marks closed ones from there on, and `o` is its transaction's place in the table.
+-- is not complete, `closed` marks closed ones from there on, and `o` is its transaction's entry in the table.
 unfoldable pub termsRefusal : ℕ → ℕ → Open → MessageHeader → ℕ → ℕ
 termsRefusal d closed o h len =
     cond (leb 32 d) 7

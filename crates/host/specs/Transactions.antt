@@ -19,7 +19,7 @@ use Rattle.host.specs.declared.Verdict.{Verdict}
 unfoldable pub fills : Open → MessageHeader → Bool
 fills o h = eqb (needed (h .count)) (suc (o .received))
 
--- A transaction's place with one message more, which does not complete it. Received has 16 bits and counts modulo 65,536: in a
+-- A transaction's entry with one message more, which does not complete it. Received has 16 bits and counts modulo 65,536: in a
 -- pair that a run reaches it is below the count and does not come round.
 abbrev pub oneMore : Open → MessageHeader → Open
 oneMore o h = record { count = h .count; address = h .«completion_address»; value = h .«completion_value»; received = suc (o .received) % 65536 }
@@ -27,7 +27,7 @@ oneMore o h = record { count = h .count; address = h .«completion_address»; va
 -- The verdict on a message: refused and nothing changed; or its transaction is complete, so that it is closed and the window
 -- moves past consecutive closed ones; or it is open with one message more.
 unfoldable pub refusing : ℕ → ℕ → ℕ → Open → Verdict
-refusing r lowest closed o = record { refusal = r; done = false; lowest = record { 0 = lowest }; closed = closed; place = o }
+refusing r lowest closed o = record { refusal = r; done = false; lowest = record { 0 = lowest }; closed = closed; entry = o }
 
 unfoldable pub closing : ℕ → ℕ → ℕ → Verdict
 closing lowest closed d =
@@ -37,7 +37,7 @@ closing lowest closed d =
       done = true;
       lowest = record { 0 = window .first };
       closed = window .marks;
-      place = free;
+      entry = free;
     }
 
 unfoldable pub holding : ℕ → ℕ → Open → MessageHeader → Verdict
@@ -46,7 +46,7 @@ holding lowest closed o h = record {
   done = false;
   lowest = record { 0 = lowest };
   closed = closed;
-  place = oneMore o h;
+  entry = oneMore o h;
 }
 
 abbrev pub decided : ℕ → ℕ → ℕ → ℕ → Open → MessageHeader → Verdict
@@ -61,7 +61,7 @@ verdictOf lowest closed o h len size =
 -- ---- the whole table
 
 -- What a host knows of transactions: the lowest not complete, marks of closed ones from there on, and the open ones, each in the
--- place that its number modulo 32 gives.
+-- entry of the table that its number modulo 32 gives.
 pub record Transactions : Type 0 where
   pub lowest : ℕ
   pub closed : ℕ
@@ -76,5 +76,5 @@ unfoldable pub after : Transactions → Message → Verdict → Transactions
 after t m v = record {
   lowest = v .lowest .0;
   closed = v .closed;
-  table = set (t .table) (m .trans % 32) (v .place);
+  table = set (t .table) (m .trans % 32) (v .entry);
 }

@@ -12,7 +12,7 @@ pub struct Open {
     pub received: u16,
 }
 
-// A place that holds no transaction.
+// An entry that holds no transaction.
 pub const FREE: Open = Open {
     address: 0,
     value: 0,
@@ -20,19 +20,19 @@ pub const FREE: Open = Open {
     received: 0,
 };
 
-// The verdict on a message: its refusal, or 0; whether it completes its transaction; and the window and the transaction's place
+// The verdict on a message: its refusal, or 0; whether it completes its transaction; and the window and the transaction's entry
 // after it.
 pub struct Verdict {
     pub refusal: u8,
     pub done: bool,
     pub lowest: TransNo,
     pub closed: u32,
-    pub place: Open,
+    pub entry: Open,
 }
 
 // What the host knows of its peer's frames and transactions. Bit i of marks stands for the frame next + i and is set where that
-// was accepted; bit i of closed for the transaction lowest + i. An open transaction is in the place of the table that its number
-// modulo 32 gives; a place with none is all zeros.
+// was accepted; bit i of closed for the transaction lowest + i. An open transaction is in the entry of the table that its number
+// modulo 32 gives; an entry with none is all zeros.
 pub struct Pair {
     pub own: u16,
     pub peer: u16,

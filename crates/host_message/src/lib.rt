@@ -81,7 +81,7 @@ pub fn completes(o: Open, h: MessageHeader) -> bool
     h.count as u32 == o.received as u32 + 1
 }
 
-// The place of a transaction with one message more, which does not complete it.
+// The entry of a transaction with one message more, which does not complete it.
 pub fn one_more(o: Open, h: MessageHeader) -> Open
     ensures { λ r. ⌜ r ≡ oneMore o h ⌝ }
 {
@@ -104,11 +104,11 @@ fn closed_after(lowest: TransNo, closed: u32, d: u32) -> Verdict
         done: true,
         lowest: lowest.advance(run),
         closed: word32::shifted(marked, run),
-        place: host::FREE,
+        entry: host::FREE,
     }
 }
 
-// The verdict on a message with len data bytes, against the window and the place of its transaction in the table, and a memory
+// The verdict on a message with len data bytes, against the window and the entry of its transaction in the table, and a memory
 // of size bytes.
 pub fn judge(
     lowest: TransNo,
@@ -129,7 +129,7 @@ pub fn judge(
             done: false,
             lowest,
             closed,
-            place: o,
+            entry: o,
         };
     }
     if completes(o, h) {
@@ -140,6 +140,6 @@ pub fn judge(
         done: false,
         lowest,
         closed,
-        place: one_more(o, h),
+        entry: one_more(o, h),
     }
 }
