@@ -24,6 +24,10 @@ fills o h = eqb (needed (h .count)) (suc (o .received))
 abbrev pub oneMore : Open → MessageHeader → Open
 oneMore o h = record { count = h .count; address = h .«completion_address»; value = h .«completion_value»; received = suc (o .received) % 65536 }
 
+-- What a message that is not refused leaves of its transaction's entry.
+abbrev pub leftIn : Open → MessageHeader → Open
+leftIn o h = cond (fills o h) free (oneMore o h)
+
 -- The verdict on a message: refused and nothing changed; or its transaction is complete, so that it is closed and the window
 -- moves past consecutive closed ones; or it is open with one message more.
 unfoldable pub refusing : ℕ → ℕ → ℕ → Open → Verdict

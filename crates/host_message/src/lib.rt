@@ -8,7 +8,7 @@ use seq::TransNo;
 use wire::MessageHeader;
 ghost use mathlib.Core.Path.{_≡_};
 ghost use Rattle.host.specs.Terms.{agrees, termsRefusal, addressRefusal, messageRefusal};
-ghost use Rattle.host.specs.Transactions.{fills, oneMore, closing, verdictOf};
+ghost use Rattle.host.specs.Transactions.{fills, oneMore, leftIn, closing, verdictOf};
 
 // Whether the header says what the transaction's first message said, if there was one.
 fn has_same_terms(o: Open, h: MessageHeader) -> bool
@@ -91,6 +91,16 @@ pub fn one_more(o: Open, h: MessageHeader) -> Open
         count: h.count,
         received: std::num::wrapping_add_u16(o.received, 1),
     }
+}
+
+// The entry that a message leaves which is not refused.
+pub fn left_in(o: Open, h: MessageHeader) -> Open
+    ensures { λ r. ⌜ r ≡ leftIn o h ⌝ }
+{
+    if completes(o, h) {
+        return host::FREE;
+    }
+    one_more(o, h)
 }
 
 // The verdict on a message that completes its transaction, which lies d past the lowest one that is not complete.

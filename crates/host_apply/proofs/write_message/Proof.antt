@@ -1,13 +1,13 @@
--- `depositing::write_message`: the data, and then the completion where it is due.
+-- `host_apply::write_message`: the data, and then the completion where it is due.
 -- Assumes nothing.
 use mathlib.Core.Path.{_∙_}
 use Rattle.wire.specs.Format.{carrying}
 use Rattle.host.specs.Host.{effect}
 use borrow.Author.Needs.{needs}
-use Rattle.depositing.proofs.write_message.Statement.{statement}
-use Rattle.depositing.proofs.write_message.Tie as tie
-use Rattle.depositing.proofs.write_message.Reads as reads
-use Rattle.depositing.proofs.write_message.Lts as lts
+use Rattle.host_apply.proofs.write_message.Statement.{statement}
+use Rattle.host_apply.proofs.write_message.Tie as tie
+use Rattle.host_apply.proofs.write_message.Reads as reads
+use Rattle.host_apply.proofs.write_message.Lts as lts
 use Rattle.octets.proofs.little4.Reads as little4-reads
 use Rattle.octets.proofs.write.Reads as write-reads
 

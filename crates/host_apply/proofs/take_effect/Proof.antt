@@ -1,0 +1,56 @@
+-- `host_apply::take_effect`: memory and the entry, by what the entry was.
+-- Assumes nothing.
+use mathlib.Core.Path.{_∙_}
+use borrow.Author.Needs.{needs}
+use Rattle.host_apply.proofs.take_effect.Statement.{statement}
+use Rattle.host_apply.proofs.take_effect.Tie as tie
+use Rattle.host_apply.proofs.take_effect.Reads as reads
+use Rattle.host_apply.proofs.take_effect.Lts as lts
+use Rattle.host_apply.proofs.write_message.Reads as write-message-reads
+use Rattle.host_message.proofs.completes.Reads as completes-reads
+use Rattle.host_message.proofs.left_in.Reads as left-in-reads
+use Rattle.host_words.proofs.entry.Reads as entry-reads
+use Rattle.host_words.proofs.put_entry.Reads as put-entry-reads
+
+entry-requires : tie.Need-entry-requires
+entry-requires c κs = search needs
+
+completes-requires : tie.Need-completes-requires
+completes-requires c κs = search needs
+
+write-message-requires : tie.Need-write-message-requires
+write-message-requires c κs = search needs
+
+left-in-requires : tie.Need-left-in-requires
+left-in-requires c κs = search needs
+
+put-entry-requires : tie.Need-put-entry-requires
+put-entry-requires c κs = search needs
+
+same-length : tie.Need-same-length
+same-length c = search needs
+
+same-length-2 : tie.Need-same-length-2
+same-length-2 c = search needs
+
+returns : tie.Need-returns
+returns c =
+    let made = c .before .before .before in
+    let wrote = made .before .before .before .before in
+    let was = wrote .before .before .before in (
+      λ l. c .before .before .put-entry .ensures .1 l ∙ rw (made .left-in .ensures, was .entry .ensures),
+      wrote .write-message .ensures ∙ rw (wrote .before .completes .ensures, was .entry .ensures),
+    )
+
+pub take-effect-spec : {M : Type 1} → statement M
+take-effect-spec =
+    tie.close
+    (tie.spec
+    entry-requires
+    completes-requires
+    write-message-requires
+    left-in-requires
+    put-entry-requires
+    same-length
+    same-length-2
+    returns)
