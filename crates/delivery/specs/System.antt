@@ -89,7 +89,7 @@ abbrev pub specifiedHost : HostEnd
 specifiedHost = record {
   hostOpening = openedOf;
   receiving = receiveOf;
-  acknowledging = λ p answer num. acknowledgementOf (p .own) (p .peer) answer num;
+  acknowledging = acknowledgementOf;
 }
 
 abbrev pub specified : Implementation

@@ -13,7 +13,7 @@ use Rattle.octets.specs.Octets.{field, little}
 use Rattle.wire.specs.Format.{Message}
 use Rattle.wire.specs.Reading.{number, flags, addressed, Read, bad, good, readFrame}
 use Rattle.wire.specs.Writing.{ackFrame}
-use Rattle.terms.specs.Terms.{free}
+use Rattle.host.specs.Terms.{free}
 use Rattle.host.specs.declared.Pair.{Pair}
 use Rattle.host.specs.declared.Answer.{Answer}
 use Rattle.host.specs.declared.Answer.the-variants.{Accepted, Again, NoMessages, Refused}

@@ -1,8 +1,8 @@
-// Writing bytes into a memory that the caller lends: all of them where they lie inside it, else none. Assumes nothing. It
-// promises the whole memory as it is then (specs/Octets.antt).
+// Bytes that a caller lends: writing into a memory, all of it where it lies inside, else nothing; the first bytes of a slice;
+// numbers as bytes. Assumes nothing. It promises the whole memory as it is then (specs/Octets.antt).
 ghost use mathlib.Core.Path.{_≡_};
 ghost use Prim.Native.Nat.{_≤_};
-ghost use lib.ListN.{length, set};
+ghost use lib.ListN.{length, set, take};
 ghost use Rattle.octets.specs.Octets.{little, inside, written};
 
 // How many bytes the local array of a copy has room for: no frame has more.
@@ -55,6 +55,16 @@ pub fn keep(memory: &mut [u8], at: usize, b: u8)
     if at < memory.len() {
         memory[at] = b;
     }
+}
+
+// So many bytes from the start, or all where there are fewer.
+pub fn front(s: &[u8], len: usize) -> &[u8]
+    ensures { λ r. ⌜ now r ≡ take len (now (s .entry)) ⌝ }
+{
+    if s.len() < len {
+        return s;
+    }
+    &s[..len]
 }
 
 // A number as its four bytes, the lowest first.

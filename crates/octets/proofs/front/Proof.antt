@@ -1,13 +1,13 @@
--- `buffer::front`: the first bytes of a buffer, or all it has.
+-- `octets::front`: the first bytes of a buffer, or all it has.
 -- Assumes nothing.
 use mathlib.Core.Path.{sym}
 use native.Mathlib.Omega.{arith}
 use lib.Seq.{take-all, length-take-le}
 use borrow.Author.Needs.{needs}
-use Rattle.buffer.proofs.front.Statement.{statement}
-use Rattle.buffer.proofs.front.Tie as tie
-use Rattle.buffer.proofs.front.Reads as reads
-use Rattle.buffer.proofs.front.Lts as lts
+use Rattle.octets.proofs.front.Statement.{statement}
+use Rattle.octets.proofs.front.Tie as tie
+use Rattle.octets.proofs.front.Reads as reads
+use Rattle.octets.proofs.front.Lts as lts
 
 returns : tie.Need-returns
 returns c = let a = c .before .args in sym (take-all (a .len) (a .s .now) (omega arith))
