@@ -3,7 +3,7 @@
 journey, the crates.
 
 `make.py` writes them; `make.py --check` writes nothing and exits with 1 where a stored picture is not the one made here.
-The crates are read from crates.txt; PLACES says where each is drawn, and a crate without a place is an error.
+The crates are read from crates.txt; a name that begins with no floor, and a crate that sees what is not below it, is an error.
 """
 import math
 import pathlib
@@ -640,202 +640,98 @@ def draw_journey():
     return p
 
 
-# ---- the crates
+# ---- the house
 
-# Floors: what is written beside them, their colour, and their rectangle: left, right, lowest row, highest row.
+# Floors from below: what is written beside them, their colour, and the floors that one may see. A crate belongs to the floor whose
+# word its name is or begins with; GROUND and others are named.
 FLOORS = {
-    "kit": ("libraries of the Rattle kit", "#ffffff", 700, 1350, 0, 0),
-    "ground": ("ground: no knowledge of frames", GREY, 30, 860, 1, 1),
-    "format": ("format: defined once, in wire", BLUE, 300, 860, 2, 5),
-    "card": ("card", GREEN, 30, 500, 6, 9),
-    "host": ("host", AMBER, 552, 812, 6, 11),
-    "C": ("C: numbers, byte slices", TEAL, 846, 970, 6, 6),
-    "theorem": ("theorem", VIOLET, 30, 230, 12, 12),
-    "tests": ("tests", GREY, 300, 760, 12, 12),
-    "lines": ("lines: characters and text", ROSE, 1010, 1350, 2, 13),
-    "programs": ("programs: input and output", TEAL, 1010, 1350, 14, 14),
+    "kit": ("the Rattle kit's libraries", "#ffffff", ()),
+    "ground": ("ground: no knowledge of frames", GREY, ("kit",)),
+    "wire": ("wire: the frame format, defined once; read, written", BLUE, ("kit", "ground")),
+    "host": ("host: the receiver, an engine in place over lent words", AMBER, ("kit", "ground", "wire")),
+    "card": ("card: the sender, an engine in place over lent words", GREEN, ("kit", "ground", "wire")),
+    "theorem": ("theorem: exactly once, over lists of calls; no code", VIOLET, ("ground", "wire", "host", "card")),
+    "face": ("face: what a Rattle caller uses", TEAL, ("ground", "wire", "host", "card", "theorem")),
+    "text": ("text: hexadecimal and decimal lines", ROSE, ("kit", "ground")),
+    "replay": ("replay: the program", ROSE, ("kit", "ground", "host", "face", "text")),
+    "capi": ("C: what the header is made of", TEAL, ("ground", "face")),
+}
+NAMED = {
+    "seq": "ground", "bitmap": "ground", "octets": "ground", "refusal": "ground", "delivery": "theorem", "edges": "theorem",
+    "logwhisker": "face", "hex": "text", "bytes": "kit", "io": "kit", "libc": "kit", "os": "kit",
 }
 
-# Where a crate is drawn: its floor, its row from below, and the middle of its box.
-PLACES = {
-    "bytes": ("kit", 0, 760), "io": ("kit", 0, 1070), "libc": ("kit", 0, 1180), "os": ("kit", 0, 1290),
-    "marks": ("ground", 1, 120), "seq": ("ground", 1, 360), "refusal": ("ground", 1, 560), "octets": ("ground", 1, 780),
-    "wire": ("format", 2, 580), "headers": ("format", 3, 420), "reader": ("format", 3, 680),
-    "writer": ("format", 4, 400), "heading": ("format", 4, 720), "layout": ("format", 5, 780),
-    "send_window": ("card", 6, 120), "sendings": ("card", 6, 310),
-    "releasing": ("card", 7, 86), "card": ("card", 7, 190), "adding": ("card", 7, 290), "finishing": ("card", 7, 410),
-    "acknowledgements": ("card", 8, 120), "retransmission": ("card", 8, 300), "admission": ("card", 8, 440),
-    "reachable_card": ("card", 9, 220), "assembly": ("card", 9, 430),
-    "terms": ("host", 6, 690), "transactions": ("host", 7, 690), "host": ("host", 8, 610), "judging": ("host", 8, 740),
-    "depositing": ("host", 9, 620), "closing": ("host", 9, 750),
-    "receive_window": ("host", 10, 650), "reception": ("host", 11, 690),
-    "capi": ("C", 6, 908),
-    "delivery": ("theorem", 12, 130),
-    "edges": ("tests", 12, 380), "host_run": ("tests", 12, 690),
-    "hexline": ("lines", 2, 1070), "decimal": ("lines", 2, 1180), "buffer": ("lines", 2, 1290),
-    "hexpairs": ("lines", 3, 1060), "answer_line": ("lines", 3, 1180), "text": ("lines", 3, 1290),
-    "hexfeed": ("lines", 4, 1060), "wording": ("lines", 4, 1240),
-    "words": ("lines", 5, 1060), "kinds": ("lines", 6, 1060), "script": ("lines", 7, 1060),
-    "pair_text": ("lines", 9, 1240),
-    "report": ("lines", 12, 1070), "card_calls": ("lines", 12, 1240), "host_calls": ("lines", 13, 1240),
-    "replay": ("programs", 14, 1070), "calls": ("programs", 14, 1240),
+# Where a floor is drawn: left, right, row from above.
+BANDS = {
+    "replay": (30, 480, 0), "capi": (600, 970, 0), "text": (30, 440, 1), "face": (520, 970, 1), "theorem": (30, 970, 2),
+    "card": (30, 480, 3), "host": (520, 970, 3), "wire": (30, 970, 4), "ground": (30, 660, 5), "kit": (700, 970, 5),
 }
+HEIGHTS = [76, 76, 76, 112, 76, 76]
+# The handful of arrows, each from a floor to one below it that it stands on, and the x at which it is drawn.
+STANDS = [("replay", "text", 235), ("capi", "face", 820), ("face", "theorem", 745), ("theorem", "card", 255),
+          ("theorem", "host", 745), ("card", "wire", 255), ("host", "wire", 745), ("wire", "ground", 345), ("ground", "kit", None)]
 
-TOP, PITCH, BOX = 60, 86, 32
-ROWS = 15
-WIDTH = 1380
+
+def floor_of(name):
+    for word in (name, name.split("_")[0]):
+        if word in NAMED:
+            return NAMED[word]
+        if word in FLOORS:
+            return word
+    raise SystemExit(f"make.py: the name of crate '{name}' begins with no floor of FLOORS")
 
 
 def read_crates():
-    """What crates.txt says each crate may see, in its order."""
+    """What crates.txt says each crate may see, in its order. A crate sees its own floor and those below it, and nothing else."""
     sees = {}
     for line in CRATES.read_text(encoding="utf-8").splitlines():
         line = line.split("#")[0].strip()
         if line:
             name, _, seen = line.partition(":")
             sees[name.strip()] = seen.split()
-    for name in sorted(set(sees) | {b for seen in sees.values() for b in seen}):
-        if name not in PLACES:
-            raise SystemExit(f"make.py: crate '{name}' of crates.txt has no place: give it one in PLACES")
     for name, seen in sees.items():
         for b in seen:
-            if PLACES[b][1] >= PLACES[name][1]:
-                raise SystemExit(f"make.py: '{name}' sees '{b}', which PLACES does not draw below it")
+            floor, below = floor_of(name), floor_of(b)
+            if below != floor and below not in FLOORS[floor][2]:
+                raise SystemExit(f"make.py: crate '{name}' of floor {floor} may not see '{b}' of floor {below}")
     return sees
 
 
-def refuse_crowding(names):
-    """Two boxes of a row must not touch."""
-    for a in names:
-        for b in names:
-            if a < b and PLACES[a][1] == PLACES[b][1] and abs(PLACES[a][2] - PLACES[b][2]) < half(a) + half(b) + 6:
-                raise SystemExit(f"make.py: '{a}' and '{b}' are too near to each other in PLACES")
+def band_y(row):
+    return 56 + sum(HEIGHTS[:row]) + 34 * row
 
 
-def reached(sees, name):
-    """All that a crate sees, by way of others too."""
-    found = set()
-    for b in sees.get(name, []):
-        found |= {b} | reached(sees, b)
-    return found
-
-
-def direct(sees, name):
-    """What a crate sees and no other crate that it sees leads to."""
-    return [b for b in sees[name] if not any(b in reached(sees, c) for c in sees[name] if c != b)]
-
-
-def row_y(row):
-    return TOP + (ROWS - 1 - row) * PITCH
-
-
-def half(name):
-    return len(name) * 4.4 + 12
-
-
-def lanes_of(row, names):
-    """The free stretches of a row between its boxes."""
-    edges = sorted((PLACES[n][2] - half(n) - 9, PLACES[n][2] + half(n) + 9) for n in names if PLACES[n][1] == row)
-    free, left = [], 8
-    for start, end in edges:
-        if start > left:
-            free.append((left, start))
-        left = end
-    return free + [(left, WIDTH - 8)]
-
-
-def way_through(row, ideal, names, taken):
-    """The place nearest to the straight way at which an arrow can pass a row, 7 away from every other one."""
-    best = None
-    for start, end in lanes_of(row, names):
-        x = start
-        while x <= end:
-            if all(abs(x - t) >= 7 for t in taken) and (best is None or abs(x - ideal) < abs(best - ideal)):
-                best = x
-            x += 1
-    if best is None:
-        raise SystemExit(f"make.py: no room for another arrow through row {row}")
-    taken.append(best)
-    return best
-
-
-def ports(arrows, end):
-    """Where on its boxes each arrow starts (end 0) or arrives (end 1): side by side, in the order of the other ends."""
-    at = {}
-    for name in sorted({arrow[end] for arrow in arrows}):
-        mine = sorted((a for a in arrows if a[end] == name), key=lambda a: (PLACES[a[1 - end]][2], a[1 - end]))
-        room = min(12, (2 * half(name) - 14) / max(1, len(mine) - 1))
-        for i, arrow in enumerate(mine):
-            at[arrow] = PLACES[name][2] + (i - (len(mine) - 1) / 2) * room
-    return at
-
-
-def draw_arrow(p, arrow, x1, x2, names, taken):
-    (a, b) = arrow
-    top, low = PLACES[a][1], PLACES[b][1]
-    x, y = x1, row_y(top) + BOX
-    d = f"M{num(x)} {num(y)}"
-    for row in range(top - 1, low, -1):
-        ideal = x1 + (x2 - x1) * (top - row) / (top - low)
-        pass_x = way_through(row, ideal, names, taken[row])
-        mid = (y + row_y(row) - 4) / 2
-        d += f"C{num(x)} {num(mid)} {num(pass_x)} {num(mid)} {num(pass_x)} {num(row_y(row) - 4)}V{num(row_y(row) + BOX + 4)}"
-        x, y = pass_x, row_y(row) + BOX + 4
-    mid, end = (y + row_y(low)) / 2, row_y(low) - 1
-    d += f"C{num(x)} {num(mid)} {num(x2)} {num(mid)} {num(x2)} {num(end - 6)}V{num(end)}"
-    p.path(d, width=1.1, stroke=INKS[PLACES[a][0]], arrow=True)
-
-
-INKS = {
-    "kit": INK, "ground": INK, "format": "#0a4fa8", "card": "#136c34", "host": "#8a5a00", "C": "#0b6a6a", "theorem": "#5a36a6",
-    "tests": SOFT, "lines": "#a3246f", "programs": "#0b6a6a",
-}
+def boxes(p, names, left, right, y):
+    """The crates of a floor in lines of boxes, as many to a line as have room."""
+    x = left + 14
+    for name in names:
+        wide = 18 + 7.9 * len(name)
+        if x + wide > right - 8:
+            x, y = left + 14, y + 36
+        p.rect(x, y, wide, 28, "#ffffff", round=5)
+        p.text(x + wide / 2, y + 19, name, 13, mono=True)
+        x += wide + 10
 
 
 def draw_crates(sees):
-    p = Picture("crates.svg", WIDTH, TOP + ROWS * PITCH - 8, "The crates by floors, and what each may see")
-    names = sorted(set(sees) | {b for seen in sees.values() for b in seen})
-    refuse_crowding(names)
-    p.text(30, 28, "An arrow goes from a crate to one that it may see. Where another crate that it sees leads there, "
-           "the arrow is left out.", 12.5, "start", SOFT)
-    for floor, (title, fill, left, right, low, high) in FLOORS.items():
-        if any(PLACES[n][0] == floor for n in names):
-            p.rect(left - 14, row_y(high) - 12, right - left + 28, row_y(low) - row_y(high) + BOX + 34, fill, RULE, 10,
-                   "4 3" if floor == "kit" else "", 0.8)
-    arrows = [(a, b) for a in sorted(sees) for b in direct(sees, a)]
-    starts, ends, taken = ports(arrows, 0), ports(arrows, 1), [[] for _ in range(ROWS)]
-    for arrow in sorted(arrows, key=lambda a: (PLACES[a[0]][1] - PLACES[a[1]][1], a)):
-        draw_arrow(p, arrow, starts[arrow], ends[arrow], names, taken)
-    for floor, (title, fill, left, _, low, _) in FLOORS.items():
-        if any(PLACES[n][0] == floor for n in names):
-            p.text(left - 6, row_y(low) + BOX + 16, title, 11, "start", SOFT, halo=fill)
-    for name in names:
-        _, row, x = PLACES[name]
-        p.rect(x - half(name), row_y(row), 2 * half(name), BOX, "#ffffff", round=5, dash="" if name in sees else "3 2")
-        p.text(x, row_y(row) + 21, name, 13, mono=True)
-    return p
-
-
-def draw_seen(sees):
-    """Every line of crates.txt as a row of a table: a dot where the crate may see the one of the column."""
-    names = sorted(set(sees) | {b for seen in sees.values() for b in seen}, key=lambda n: (-PLACES[n][1], PLACES[n][2]))
-    rows = [n for n in names if n in sees]
-    columns = [n for n in names if any(n in seen for seen in sees.values())]
-    left, top, cell = 210, 130, 22
-    p = Picture("seen.svg", left + cell * len(columns) + 40, top + cell * len(rows) + 20, "What each crate may see, all of it")
-    p.text(20, 28, "A dot: the crate of the row may see the crate of the column", 13, "start", SOFT)
-    for i, a in enumerate(rows):
-        y = top + cell * i
-        p.rect(20, y, left - 20 + cell * len(columns), cell, FLOORS[PLACES[a][0]][1], "#ffffff", width=1)
-        p.text(28, y + 15, a, 12, "start", mono=True)
-        p.text(left - 10, y + 15, PLACES[a][0], 10, "end", SOFT)
-    for j, b in enumerate(columns):
-        x = left + cell * j + cell / 2
-        p.put_text(x + 4, top - 8, b, 12, "start", INK, mono=True, turn=-60)
-        p.line(x, top, x, top + cell * len(rows), stroke="#ffffff", width=1)
-        for i, a in enumerate(rows):
-            if b in sees[a]:
-                p.parts.append(f'<circle cx="{num(x)}" cy="{num(top + cell * i + cell / 2)}" r="5" fill="{INK}"/>')
+    p = Picture("crates.svg", 1000, band_y(len(HEIGHTS)) + 6, "The house: floors, their crates, and which floor stands on which")
+    p.text(30, 28, "A crate sees crates of its own floor and of the floors below it that an arrow leads to.", 12.5, "start", SOFT)
+    names = list(sees) + sorted({b for seen in sees.values() for b in seen if b not in sees})
+    for floor, (left, right, row) in BANDS.items():
+        title, fill, _ = FLOORS[floor]
+        p.rect(left, band_y(row), right - left, HEIGHTS[row], fill, RULE, 10, "4 3" if floor == "kit" else "", 0.8)
+        p.text(left + 14, band_y(row) + 20, title, 11.5, "start", SOFT)
+        boxes(p, [n for n in names if floor_of(n) == floor], left, right, band_y(row) + 32)
+    for above, below, x in STANDS:
+        top, bottom = BANDS[above], BANDS[below]
+        if x is None:
+            y = band_y(top[2]) + HEIGHTS[top[2]] / 2
+            p.line(top[1], y, bottom[0], y, arrow=True)
+        else:
+            p.line(x, band_y(top[2]) + HEIGHTS[top[2]], x, band_y(bottom[2]), arrow=True)
+    # the program stands on the face too, which begins further to the right
+    y = band_y(0) + HEIGHTS[0] - 14
+    p.path(f"M480 {num(y)}H560V{num(band_y(1))}", arrow=True)
     return p
 
 
@@ -844,7 +740,7 @@ def draw_seen(sees):
 
 def pictures():
     sees = read_crates()
-    return [draw_frame(), draw_windows(), draw_lives(), draw_journey(), draw_crates(sees), draw_seen(sees)]
+    return [draw_frame(), draw_windows(), draw_lives(), draw_journey(), draw_crates(sees)]
 
 
 def check(made):
