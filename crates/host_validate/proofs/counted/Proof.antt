@@ -1,11 +1,11 @@
--- `judging::counted`: each of the sums with the message.
+-- `host_validate::counted`: each of the sums with the message.
 -- Assumes nothing.
 use borrow.Author.Needs.{needs}
-use Rattle.judging.proofs.counted.Statement.{statement}
-use Rattle.judging.proofs.counted.Tie as tie
-use Rattle.judging.proofs.counted.Reads as reads
-use Rattle.judging.proofs.counted.Lts as lts
-use Rattle.judging.proofs.one_if.Reads as one-if-reads
+use Rattle.host_validate.proofs.counted.Statement.{statement}
+use Rattle.host_validate.proofs.counted.Tie as tie
+use Rattle.host_validate.proofs.counted.Reads as reads
+use Rattle.host_validate.proofs.counted.Lts as lts
+use Rattle.host_validate.proofs.one_if.Reads as one-if-reads
 
 one-if-requires : tie.Need-one-if-requires
 one-if-requires c κs = search needs
