@@ -254,7 +254,7 @@ addsNothing = withAdding (λ c slots t at bytes. handedOver 23 c slots [])
 unfoldable pub plainlyBehind : ℕ → ℕ → Bool
 plainlyBehind num next = ltb num next
 
--- As the rules say (`byNumber`), but for the test whether a frame is plainlyBehind.
+-- As the rules say (`byNumber`), but for the test whether a frame is behind.
 unfoldable pub numberedPlainly : Pair → List ℕ → ℕ → List Message → Received
 numberedPlainly p memory num ms =
     let d = distance frameSpace (p .next .0) num in

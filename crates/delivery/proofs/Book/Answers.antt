@@ -72,7 +72,7 @@ times-seen c (a ∷ xs) (r ∷ rs) q =
     ap (λ (x : Bool). x && copyOf c r) (sym (first-seen a) ∙ ap isFirst one) ∙ first-expects c r in
     rw (here, times-seen c xs rs later)
 
--- what an answer summand to a sum
+-- what an answer adds to a sum
 abbrev pub summand : (Sums → ℕ) → Answer → ℕ
 summand f (Accepted n sums) = f sums
 summand f (Again n) = 0

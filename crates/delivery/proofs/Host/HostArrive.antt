@@ -1,4 +1,4 @@
--- The host on a copy of a sealed frame: again if a copy has reached it sealedBefore, accepted if not; and its state stays the
+-- The host on a copy of a sealed frame: again if a copy has reached it before, accepted if not; and its state stays the
 -- book's. Assumes nothing.
 use Prim.Native.Nat.{ℕ, zero, suc, _+_, _-_, _%_, _≤_, _<_}
 use native.Mathlib.Nat.{mod-add-mod, zero-add, not-suc-le-zero}

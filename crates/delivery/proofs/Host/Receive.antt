@@ -181,7 +181,7 @@ receive-short h g memory l = go (ℕ-discrete (refusalOf (readFrame (addressed (
         let can = readable (addressed (h .own) (h .peer) g) g z in
         (NoMessages, none-no-effect h, received-none h g memory can (flag can))
 
--- ---- a frame accepted sealedBefore, marked again
+-- ---- a frame accepted before, marked again
 
 change-same : (ss : List FrameRecord) (c : ℕ) → getD ss c noFrame .accepted ≡ true → changeAt ss c markAccepted ≡ ss
 unfolding changeAt

@@ -71,21 +71,22 @@ module _ (cardId hostId : ℕ) (cardFits : cardId < frameSpace) (hostFits : host
   abbrev slots : List ℕ
   slots = w .slots
 
-  pub opening-entered : (count address value : ℕ) → length (b .transactions) < 32
+  pub opening-entered : (count address value : ℕ) → length (b .transactions) < lowUnfinished b + 32
       → bookStep b (cardStep specifiedCard w (openCall count address value) .observation)
       ≡ enterOpening b count address value
   unfolding byCard enter
-  opening-entered count address value few = rw (opens-unrefused cardId hostId w b f count address value (omega arith))
+  opening-entered count address value few = rw (opens-unrefused cardId hostId w b f count address value few)
 
   -- a message of no bytes as the first of a frame, of a transaction that takes more
-  pub adding-entered : (t : ℕ) → t < length (b .transactions) → t < transSpace
+  pub adding-entered : (t : ℕ) → t < length (b .transactions)
       → inAll b t < needed (transactionAt b t .count) → b .building ≡ [] → length (b .frames) < releasedCount b + 64
       → (at : ℕ)
-      → bookStep b (cardStep specifiedCard w (addCall t at []) .observation) ≡ enterMessage b t at []
+      → bookStep b (cardStep specifiedCard w (addCall (t % transSpace) at []) .observation)
+      ≡ enterMessage b (t % transSpace) at []
   unfolding byCard enter finished
-  adding-entered t known fits room empty free at =
-      rw (add-done c slots b (f .cardFor) (f .sound) t at [] fits
-      (adds-unrefused cardId hostId w b f t from-low known fits room empty free))
+  adding-entered t known room empty free at =
+      rw (add-done c slots b (f .cardFor) (f .sound) (t % transSpace) at [] (mod-lt t (lit< tt))
+      (adds-unrefused cardId hostId w b f t from-low known room empty free))
     where
       unfinished : finished b t ≡ false
       unfinished =

@@ -6,8 +6,9 @@ use Prim.Native.Nat.{ℕ, zero, suc, _+_, _-_, _≤_, _<_}
 use native.Mathlib.Nat.{add-zero}
 use native.Mathlib.Omega.{arith}
 use mathlib.Core.Path.{_≡_, refl, sym, ap, _∙_, subst}
-use mathlib.Core.Bool.{true, false}
-use mathlib.Core.List.{List, [], _∷_, _++_, map, append-nil}
+use mathlib.Core.Logic.{_⊎_, inl, inr}
+use mathlib.Core.Bool.{Bool, true, false, cond}
+use mathlib.Core.List.{List, [], _∷_, _++_, map, List·Memᴰ, List·Memᴰ·not-nil, List·Memᴰ·cases-cons}
 use mathlib.Core.Option.{some}
 use borrow.Author.Tests.{le-leb, lt-leb}
 use lib.Dec.{lit≤, lit<}
@@ -16,7 +17,7 @@ use Rattle.seq.specs.Ring.{distance, frameSpace}
 use Rattle.seq.proofs.Ring.{distance-behind}
 use Rattle.host.specs.Host.{Received, unchanged, refused, receiveOf}
 use Rattle.host.proofs.Receiving.{by-number-ahead}
-use Rattle.wire.specs.Format.{needed}
+use Rattle.octets.specs.Octets.{little}
 use Rattle.send_window.specs.Window.{unreleased}
 use Rattle.delivery.specs.Book.{
   MessageRecord,
@@ -40,6 +41,7 @@ use Rattle.delivery.specs.Book.{
   allMessagesIn,
   perform,
   dataWrites,
+  completionWrite,
   writesOf,
   bookWrites,
   bookMemory,
@@ -65,9 +67,7 @@ use Rattle.delivery.specs.System.{
   step,
   run,
   initial,
-  specifiedHost,
   specified,
-  hostStep,
 }
 use Rattle.delivery.specs.Demand3.{
   typed,
@@ -88,9 +88,10 @@ use Rattle.delivery.specs.Demand3.{
 }
 use Rattle.delivery.proofs.Lists.Check.{slots₀}
 use Rattle.delivery.proofs.Book.Along.{last, last-is, last-plain}
-use Rattle.delivery.proofs.Book.Counts.{not-full}
+use Rattle.delivery.proofs.Book.Writes.{perform-append}
 use Rattle.delivery.proofs.Demand.{demand3}
 use Rattle.delivery.proofs.Lists.Entered.{reading-entered}
+use Rattle.delivery.proofs.Lists.NoBytes.{NoBytes, no-bytes}
 use Rattle.delivery.proofs.Lists.Rounds.{
   message,
   done,
@@ -99,17 +100,19 @@ use Rattle.delivery.proofs.Lists.Rounds.{
   past-done,
   past-leads,
   past-where,
-  first,
-  second,
+  bare,
+  closed,
+  closed-bare,
   memory,
   page,
+  TermsFit,
   message-fits,
   bares,
+  fitting-none,
   page-allowed,
 }
 use Rattle.delivery.proofs.Lists.RoundsRun.{
   rounds,
-  opening,
   For,
   cardFits,
   hostFits,
@@ -117,21 +120,21 @@ use Rattle.delivery.proofs.Lists.RoundsRun.{
   roundAcks,
   Arrival,
   by-its-number,
+  specified-in-turn,
   Leads,
   Leading,
   before,
   arrived,
-  both-open,
   whole,
 }
 
 -- ---- the lists
 
 lateCopy : ℕ → List Event
-lateCopy n = opening (rounds n 0 (receives 0 ∷ []))
+lateCopy n = rounds n 0 (receives 0 ∷ [])
 
 lateAck : ℕ → List Event
-lateAck n = opening (rounds n 0 (reads 0 ∷ []))
+lateAck n = rounds n 0 (reads 0 ∷ [])
 
 abbrev ran : List Event → RunResult
 ran events = run specified (initial specified 2 1 64 slots₀ memory) events
@@ -146,11 +149,6 @@ record Premises (events : List Event) : Type 0 where
   writes : WritesAllowed (bookAfter events)
 
 -- ---- after n rounds
-
-in-turn : (w : System) (b : Book) (k c : ℕ) (e : MessageRecord) → Arrival w b k c e → lowestNotAccepted b ≡ c
-    → step specified w (receives k) ≡ hostStep specifiedHost w k
-unfolding step
-in-turn w b k c e a q = refl
 
 head-stays : {A : Type 0} (xs ys : List A) (x : A) → getElem? xs 0 ≡ some x → getElem? (xs ++ ys) 0 ≡ some x
 head-stays [] ys x q = absurd (let z : _≡_ {A = ℕ} 0 1 = cc in omega arith)
@@ -171,86 +169,99 @@ first-ack (suc (suc n)) h = head-stays (roundAcks (suc n)) (oneFrame (suc n) ∷
     (first-ack (suc n) (omega arith))
 
 -- a frame that is through, marked again
-past-same : (n : ℕ) (f : FrameRecord → FrameRecord) → f done ≡ done → changeAt (past n []) 0 f ≡ past n []
+past-same : (n : ℕ) (f : FrameRecord → FrameRecord) → ((t : ℕ) → f (done t) ≡ done t)
+    → changeAt (past 0 n []) 0 f ≡ past 0 n []
 unfolding past changeAt
 past-same zero f q = refl
-past-same (suc n) f q = ap {B = List FrameRecord} (λ x. x ∷ past n []) q
+past-same (suc n) f q = ap {B = List FrameRecord} (λ x. x ∷ past 1 n []) (q 0)
 
--- the messages accepted: one of transaction 0 for each round, without bytes
+-- the messages accepted: one for each round, without bytes
 abbrev through : ℕ → List MessageRecord
-through n = messagesIn isAccepted (past n [])
+through n = messagesIn isAccepted (past 0 n [])
 
-through-length : (n : ℕ) → length (through n) ≡ n
+through-length : (k n : ℕ) → length (messagesIn isAccepted (past k n [])) ≡ n
 unfolding past messagesIn
-through-length zero = refl
-through-length (suc n) = ap suc (through-length n)
+through-length k zero = refl
+through-length k (suc n) = ap suc (through-length (suc k) n)
 
-through-zero : (n : ℕ) → ofTransaction 0 (through n) ≡ through n
-unfolding past messagesIn ofTransaction
-through-zero zero = refl
-through-zero (suc n) = ap {B = List MessageRecord} (λ r. message 0 ∷ r) (through-zero n)
+through-empty : (k n : ℕ) (e : MessageRecord) → List·Memᴰ e (messagesIn isAccepted (past k n [])) → e .bytes ≡ []
+unfolding past messagesIn
+through-empty k zero e m = absurd (List·Memᴰ·not-nil m)
+through-empty k (suc n) e m = go (through-empty (suc k) n e) (List·Memᴰ·cases-cons m)
+  where
+    go : (List·Memᴰ e (messagesIn isAccepted (past (suc k) n [])) → e .bytes ≡ [])
+        → (e ≡ message k) ⊎ List·Memᴰ e (messagesIn isAccepted (past (suc k) n [])) → e .bytes ≡ []
+    go later (inl q) = rw q refl
+    go later (inr x) = later x
 
-through-one : (n : ℕ) → ofTransaction 1 (through n) ≡ []
-unfolding past messagesIn ofTransaction
-through-one zero = refl
-through-one (suc n) = through-one n
+-- Their completions write zeros over zeros.
+no-data : (m : List ℕ) (es : List MessageRecord) → NoBytes es → perform m (dataWrites es) ≡ m
+unfolding dataWrites perform
+no-data m [] h = refl
+no-data m (e ∷ es) h = rw (h .0) (no-data m es (h .1))
 
-through-unwritten : (n : ℕ) (m : List ℕ) → perform m (dataWrites (through n)) ≡ m
-unfolding past messagesIn dataWrites perform
-through-unwritten zero m = refl
-through-unwritten (suc n) m = through-unwritten n m
+zeros : (x : Bool) → perform memory (cond x (completionWrite bare ∷ []) []) ≡ memory
+unfolding perform completionWrite little memory
+zeros true = refl
+zeros false = refl
+
+unwritten-from : (m j : ℕ) (es : List MessageRecord) → ((e : MessageRecord) → List·Memᴰ e es → e .bytes ≡ [])
+    → perform memory (bookWrites j (closed m []) es) ≡ memory
+unfolding closed bookWrites writesOf perform
+unwritten-from zero j es h = refl
+unwritten-from (suc m) j es h =
+    perform-append memory (writesOf bare j es) (bookWrites (suc j) (closed m []) es)
+    ∙ ap (λ (x : List ℕ). perform x (bookWrites (suc j) (closed m []) es)) one
+    ∙ unwritten-from m (suc j) es h
+  where
+    one : perform memory (writesOf bare j es) ≡ memory
+    one =
+        perform-append memory (dataWrites (ofTransaction j es))
+        (cond (allMessagesIn bare j es) (completionWrite bare ∷ []) [])
+        ∙ ap (λ (x : List ℕ). perform x (cond (allMessagesIn bare j es) (completionWrite bare ∷ []) []))
+        (no-data memory (ofTransaction j es) (no-bytes j es h))
+        ∙ zeros (allMessagesIn bare j es)
 
 module _ (n : ℕ) (hs : List HandOut) (ds : List AckRange) (ys : List Expected) where
-  page-memory : n < 65535 → bookMemory (page n [] [] hs ds ys) ≡ memory
-  unfolding bookMemory bookWrites writesOf dataWrites needed
-  page-memory few =
-      let one : allMessagesIn first 0 (through n) ≡ false =
-      not-full first 0 (through n) (omega (arith, ap length (through-zero n), through-length n)) in
-      let two : allMessagesIn second 1 (through n) ≡ false =
-      not-full second 1 (through n) (omega (arith, ap length (through-one n))) in
-      rw (
-        one,
-        two,
-        through-zero n,
-        through-one n,
-        append-nil (dataWrites (through n)),
-        append-nil
-            (dataWrites (through n)),
-      )
-      (through-unwritten n memory)
+  page-memory : bookMemory (page n [] [] [] hs ds ys) ≡ memory
+  unfolding bookMemory
+  page-memory = unwritten-from n 0 (through n) (through-empty 0 n)
 
 module _ (n : ℕ) (some-round : 0 < n) (ys : List Expected) where
   abbrev now : Book
-  now = page n [] [] (roundCopies n) (roundAcks n) ys
+  now = page n [] [] [] (roundCopies n) (roundAcks n) ys
 
   lowest : lowestNotAccepted now ≡ n
-  lowest = past-leads (λ x. x .accepted) refl n [] refl
+  lowest = past-leads (λ x. x .accepted) (λ t. refl) n [] refl
 
   released : releasedCount now ≡ n
-  released = past-leads (λ x. x .acknowledged) refl n [] refl
+  released = past-leads (λ x. x .acknowledged) (λ t. refl) n [] refl
 
-  first-through : frameAt now 0 ≡ done
-  first-through = past-done n 0 [] some-round
+  first-through : frameAt now 0 ≡ done 0
+  first-through = past-done 0 n 0 0 [] some-round refl
 
   -- the book after frame 0 came once more, and after its acknowledgement did
   abbrev copied : Book
-  copied = page n [] [] (roundCopies n) (roundAcks n ++ (oneFrame 0 ∷ [])) (ys ++ (expectAgain 0 ∷ []))
+  copied = page n [] [] [] (roundCopies n) (roundAcks n ++ (oneFrame 0 ∷ [])) (ys ++ (expectAgain 0 ∷ []))
 
   copy-entered : enterArrival now 0 ≡ copied
   unfolding enterArrival
-  copy-entered = rw (ap (λ (x : FrameRecord). x .accepted) first-through, past-same n markAccepted refl)
+  copy-entered = rw (ap (λ (x : FrameRecord). x .accepted) first-through, past-same n markAccepted (λ t. refl))
 
   ack-entered : enterAck now (some (oneFrame 0)) ≡ now
   unfolding enterAck markWhere
   ack-entered = ap (λ (l : List FrameRecord). withFrames now l [])
-      (past-where markAcknowledged refl (covers (oneFrame 0)) n [])
+      (past-where markAcknowledged (λ t. refl) (covers (oneFrame 0)) 0 n [])
 
   arrival : (w : System) → For w now → Arrival w now 0 0 (message 0)
   arrival w f = record {
     agree = f;
     copied = first-copy n some-round;
     holds = ap (λ (x : FrameRecord). x .messages) first-through;
-    fits = message-fits 0 (lit< tt);
+    fits =
+        message-fits (closed n []) 0
+        (subst TermsFit (sym (closed-bare n 0 [] some-round))
+        (record { count-fits = lit< tt; address-fits = lit< tt; value-fits = lit< tt }));
   }
 
 -- ---- a copy in time
@@ -260,20 +271,21 @@ record AgainLast (n : ℕ) (w : System) (b : Book) : Type 0 where
   handOuts : List HandOut
   acksDue : List AckRange
   earlier : List Expected
-  bookIs : b ≡ page n [] [] handOuts acksDue (earlier ++ (expectAgain 0 ∷ []))
+  bookIs : b ≡ page n [] [] [] handOuts acksDue (earlier ++ (expectAgain 0 ∷ []))
 
 copy-leads : (n : ℕ) → 0 < n → n ≤ 32768 → (ys : List Expected)
-    → Leading receiveOf in-turn true (AgainLast n) (receives 0 ∷ []) (page n [] [] (roundCopies n) (roundAcks n) ys)
-unfolding typed allTyped run bookFrom notTooLate inTime frameInTime messagesIn
+    → Leading specified specified-in-turn true (AgainLast n) (receives 0 ∷ [])
+    (page n [] [] [] (roundCopies n) (roundAcks n) ys)
+unfolding typed allTyped run bookFrom notTooLate inTime frameInTime messagesIn step
 copy-leads n h few ys w f =
-    before receiveOf in-turn true (AgainLast n) (receives 0) [] w (now n h ys) (copied n h ys) refl
+    before specified specified-in-turn true (AgainLast n) (receives 0) [] w (now n h ys) (copied n h ys) _ refl refl
     (rw (first-copy n h) (le-leb (lowestNotAccepted (now n h ys)) (0 + copyLateMost) (omega (arith, lowest n h ys))))
-    (arrived receiveOf in-turn true (AgainLast n) w (now n h ys) 0 0 (message 0) (arrival n h ys w f)
+    (arrived specified specified-in-turn true (AgainLast n) w (now n h ys) 0 0 (message 0) (arrival n h ys w f)
     ∙ copy-entered n h ys)
     (record {
       fitting = refl;
       timing = refl;
-      allowed = page-allowed n [] (bares []) _ _ _;
+      allowed = page-allowed n [] [] (fitting-none n) (bares []) _ _ _;
       reached = record { handOuts = _; acksDue = _; earlier = ys; bookIs = refl };
     })
 
@@ -288,15 +300,15 @@ record CopyAgain (n : ℕ) : Type 0 where
 guaranteed : (events : List Event) → Premises events → Guarantees (outcomeOf (ran events .system)) (bookAfter events)
 unfolding Demand3For
 guaranteed events p =
-    demand3 2 1 64 slots₀ memory events (both-open receiveOf in-turn true (λ w b. Unit {0}))
+    demand3 2 1 64 slots₀ memory events (specified-in-turn .opensBoth)
     (p .typedAll) (p .inTimeAll) (p .writes)
 
 copy-in-time : (n : ℕ) → 0 < n → n ≤ 32768 → CopyAgain n
 unfolding lateCopy numberedAs
-copy-in-time n h few = go (whole receiveOf in-turn true (AgainLast n) n (omega arith) (receives 0 ∷ [])
+copy-in-time n h few = go (whole specified specified-in-turn true (AgainLast n) n (receives 0 ∷ [])
     (copy-leads n h few))
   where
-    go : Leads receiveOf in-turn true (AgainLast n) (lateCopy n) (initial specified 2 1 64 slots₀ memory)
+    go : Leads specified specified-in-turn true (AgainLast n) (lateCopy n) (initial specified 2 1 64 slots₀ memory)
         (emptyBook memory)
         → CopyAgain n
     go l =
@@ -314,10 +326,10 @@ copy-in-time n h few = go (whole receiveOf in-turn true (AgainLast n) n (omega a
               ap (last expectNoEffect) (g .answersMatch)
               ∙ ap (λ (b : Book). last expectNoEffect (map numberedAs (b .expected))) (e .bookIs)
               ∙ last-is numberedAs (e .earlier) (expectAgain 0) expectNoEffect;
-          counted = g .messagesAgree ∙ ap (λ (b : Book). length (acceptedMessages b)) (e .bookIs) ∙ through-length n;
+          counted = g .messagesAgree ∙ ap (λ (b : Book). length (acceptedMessages b)) (e .bookIs) ∙ through-length 0 n;
           unwritten =
               g .memoryAgrees ∙ ap bookMemory (e .bookIs)
-              ∙ page-memory n (e .handOuts) (e .acksDue) (e .earlier ++ (expectAgain 0 ∷ [])) (omega arith);
+              ∙ page-memory n (e .handOuts) (e .acksDue) (e .earlier ++ (expectAgain 0 ∷ []));
         }
 
 copy-at-limit : CopyAgain 32768
@@ -333,15 +345,16 @@ abbrev RefusedLast : System → Book → Type 0
 RefusedLast w b = last (refused 0 0) (w .answers) ≡ refused 6 0
 
 late-leads : (n : ℕ) → 32768 < n → n ≤ 65472 → (ys : List Expected)
-    → Leading receiveOf in-turn false RefusedLast (receives 0 ∷ []) (page n [] [] (roundCopies n) (roundAcks n) ys)
+    → Leading specified specified-in-turn false RefusedLast (receives 0 ∷ [])
+    (page n [] [] [] (roundCopies n) (roundAcks n) ys)
 unfolding typed allTyped run bookFrom notTooLate inTime frameInTime messagesIn step byHost
 late-leads n far few ys w f = record {
   fitting = refl;
   timing = rw (first-copy n h, lt-leb (lowestNotAccepted here) (0 + copyLateMost) (omega (arith, lowest n h ys))) refl;
   allowed =
-      subst WritesAllowed (sym (arrived receiveOf in-turn true RefusedLast w here 0 0 (message 0) a
+      subst WritesAllowed (sym (arrived specified specified-in-turn true RefusedLast w here 0 0 (message 0) a
       ∙ copy-entered n h ys))
-      (page-allowed n [] (bares []) _ _ _);
+      (page-allowed n [] [] (fitting-none n) (bares []) _ _ _);
   reached =
       subst (λ (r : Received). last (refused 0 0) (w .answers ++ (r .answer ∷ [])) ≡ refused 6 0) (sym ahead)
       (last-plain (w .answers) (refused 6 0) (refused 0 0));
@@ -369,25 +382,26 @@ late-leads n far few ys w f = record {
 copy-too-late : (n : ℕ) → 32768 < n → n ≤ 65472 → CopyRefused n
 unfolding lateCopy
 copy-too-late n far few =
-    let l = whole receiveOf in-turn false RefusedLast n (omega arith) (receives 0 ∷ []) (late-leads n far few) in
+    let l = whole specified specified-in-turn false RefusedLast n (receives 0 ∷ []) (late-leads n far few) in
     record { premiseFails = l .timing; answer = l .reached }
 
 -- ---- an acknowledgement
 
 abbrev Through : ℕ → System → Book → Type 0
-Through n w b = (hs : List HandOut) × (ds : List AckRange) × (ys : List Expected) × (b ≡ page n [] [] hs ds ys)
+Through n w b = (hs : List HandOut) × (ds : List AckRange) × (ys : List Expected) × (b ≡ page n [] [] [] hs ds ys)
 
 ack-leads : (n : ℕ) → 0 < n → n ≤ 32768 → (ys : List Expected)
-    → Leading receiveOf in-turn true (Through n) (reads 0 ∷ []) (page n [] [] (roundCopies n) (roundAcks n) ys)
+    → Leading specified specified-in-turn true (Through n) (reads 0 ∷ [])
+    (page n [] [] [] (roundCopies n) (roundAcks n) ys)
 unfolding typed allTyped run bookFrom notTooLate inTime ackInTime messagesIn step
 ack-leads n h few ys w f =
-    before receiveOf in-turn true (Through n) (reads 0) [] w (now n h ys) (now n h ys) refl
+    before specified specified-in-turn true (Through n) (reads 0) [] w (now n h ys) (now n h ys) _ refl refl
     (rw (first-ack n h) (le-leb (releasedCount (now n h ys)) (0 + ackLateMost) (omega (arith, released n h ys))))
     (reading-entered 2 1 cardFits hostFits w (now n h ys) f 0 (oneFrame 0) (first-ack n h) ∙ ack-entered n h ys)
     (record {
       fitting = refl;
       timing = refl;
-      allowed = page-allowed n [] (bares []) _ _ _;
+      allowed = page-allowed n [] [] (fitting-none n) (bares []) _ _ _;
       reached = (_, _, ys, refl);
     })
 
@@ -399,9 +413,9 @@ record AckAgain (n : ℕ) : Type 0 where
 
 ack-in-time : (n : ℕ) → 0 < n → n ≤ 32768 → AckAgain n
 unfolding lateAck
-ack-in-time n h few = go (whole receiveOf in-turn true (Through n) n (omega arith) (reads 0 ∷ []) (ack-leads n h few))
+ack-in-time n h few = go (whole specified specified-in-turn true (Through n) n (reads 0 ∷ []) (ack-leads n h few))
   where
-    go : Leads receiveOf in-turn true (Through n) (lateAck n) (initial specified 2 1 64 slots₀ memory)
+    go : Leads specified specified-in-turn true (Through n) (lateAck n) (initial specified 2 1 64 slots₀ memory)
         (emptyBook memory)
         → AckAgain n
     go l =
@@ -414,9 +428,9 @@ ack-in-time n h few = go (whole receiveOf in-turn true (Through n) n (omega arit
         let g = guaranteed (lateAck n) p in
         let e = l .reached .3 in
         let sealed : length (bookAfter (lateAck n) .frames) ≡ n =
-        ap (λ (b : Book). length (b .frames)) e ∙ past-length n [] ∙ add-zero n in
+        ap (λ (b : Book). length (b .frames)) e ∙ past-length 0 n [] ∙ add-zero n in
         let free : releasedCount (bookAfter (lateAck n)) ≡ n =
-        ap releasedCount e ∙ past-leads (λ x. x .acknowledged) refl n [] refl in
+        ap releasedCount e ∙ past-leads (λ x. x .acknowledged) (λ t. refl) n [] refl in
         record { premises = p; released = sealed; noneLeft = omega (arith, g .releasedAgrees, sealed, free) }
 
 ack-at-limit : AckAgain 32768
@@ -425,14 +439,14 @@ ack-at-limit = ack-in-time 32768 (lit< tt) (lit≤ tt)
 ack-too-late : (n : ℕ) → 32768 < n → n ≤ 65535
     → notTooLate (emptyBook memory) (ran (lateAck n) .observations) ≡ false
 unfolding lateAck typed allTyped run bookFrom notTooLate inTime ackInTime messagesIn step byCard
-ack-too-late n far few = whole receiveOf in-turn false (λ w b. Unit {0}) n few (reads 0 ∷ []) leads .timing
+ack-too-late n far few = whole specified specified-in-turn false (λ w b. Unit {0}) n (reads 0 ∷ []) leads .timing
   where
     h : 0 < n
     h = omega arith
 
     leads : (ys : List Expected)
-        → Leading receiveOf in-turn false (λ w b. Unit {0}) (reads 0 ∷ [])
-        (page n [] [] (roundCopies n) (roundAcks n) ys)
+        → Leading specified specified-in-turn false (λ w b. Unit {0}) (reads 0 ∷ [])
+        (page n [] [] [] (roundCopies n) (roundAcks n) ys)
     leads ys w f = record {
       fitting = refl;
       timing =
@@ -442,6 +456,6 @@ ack-too-late n far few = whole receiveOf in-turn false (λ w b. Unit {0}) n few 
           subst WritesAllowed
           (sym (reading-entered 2 1 cardFits hostFits w (now n h ys) f 0 (oneFrame 0) (first-ack n h)
           ∙ ack-entered n h ys))
-          (page-allowed n [] (bares []) _ _ _);
+          (page-allowed n [] [] (fitting-none n) (bares []) _ _ _);
       reached = tt;
     }

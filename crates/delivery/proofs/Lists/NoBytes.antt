@@ -26,11 +26,11 @@ use Rattle.delivery.specs.Book.{
 use Rattle.delivery.specs.Demand3.{Apart, ApartFrom, AllApart, NoByteTwice, writesMade, WritesAllowed}
 use Rattle.delivery.proofs.Book.AllFinished.{messagesIn-some}
 
-abbrev NoBytes : List MessageRecord → Type 0
+abbrev pub NoBytes : List MessageRecord → Type 0
 NoBytes [] = Unit {0}
 NoBytes (e ∷ es) = (e .bytes ≡ []) × NoBytes es
 
-no-bytes : (i : ℕ) (es : List MessageRecord) → ((e : MessageRecord) → List·Memᴰ e es → e .bytes ≡ [])
+pub no-bytes : (i : ℕ) (es : List MessageRecord) → ((e : MessageRecord) → List·Memᴰ e es → e .bytes ≡ [])
     → NoBytes (ofTransaction i es)
 unfolding ofTransaction
 no-bytes i [] h = tt
@@ -98,6 +98,7 @@ module _ (b : Book) (empty : (e : MessageRecord) → List·Memᴰ e (addedMessag
     (inMemory : (e : MessageRecord) → List·Memᴰ e (addedMessages b) → e .dataAddress ≤ length (b .start))
     (completionIn : (d : Transaction) → List·Memᴰ d (b .transactions) → d .completionAddress + 4 ≤ length (b .start))
     (inTurn : (i j : ℕ) → i < j → j < length (b .transactions)
+    → List·Memᴰ i (transactionAt b j .unfinishedAtOpening)
     → transactionAt b i .completionAddress + 4 ≤ transactionAt b j .completionAddress) where
   data-of : (i : ℕ) → NoBytes (ofTransaction i (acceptedMessages b))
   data-of i =
@@ -107,16 +108,17 @@ module _ (b : Book) (empty : (e : MessageRecord) → List·Memᴰ e (addedMessag
   abbrev isDue : ℕ → Bool
   isDue i = allMessagesIn (transactionAt b i) i (acceptedMessages b)
 
-  apart-due : (i j : ℕ) → i < j → j < length (b .transactions) → (x : Bool)
+  apart-due : (i j : ℕ) → i < j → j < length (b .transactions)
+      → List·Memᴰ i (transactionAt b j .unfinishedAtOpening) → (x : Bool)
       → AllApart (due (transactionAt b i) x)
       (dataWrites (ofTransaction j (acceptedMessages b)) ++ due (transactionAt b j) (isDue j))
-  apart-due i j l h true = (
+  apart-due i j l h m true = (
     from-data (completionWrite (transactionAt b i)) (ofTransaction j (acceptedMessages b)) (data-of j)
-        (due (transactionAt b j) (isDue j)) (due-from (transactionAt b i) (transactionAt b j) (inTurn i j l h)
+        (due (transactionAt b j) (isDue j)) (due-from (transactionAt b i) (transactionAt b j) (inTurn i j l h m)
         (isDue j)),
     tt,
   )
-  apart-due i j l h false = tt
+  apart-due i j l h m false = tt
 
   pub allowed-without-bytes : WritesAllowed b
   unfolding writesOf
@@ -132,6 +134,6 @@ module _ (b : Book) (empty : (e : MessageRecord) → List·Memᴰ e (addedMessag
       apartTogether = λ i j l h m.
           data-apart (ofTransaction i (acceptedMessages b)) (data-of i) (due (transactionAt b i) (isDue i))
           (writesMade b j)
-          (apart-due i j l h (isDue i));
+          (apart-due i j l h m (isDue i));
     };
   }

@@ -1,27 +1,30 @@
--- Lists that go in rounds, run from two fresh ends on, whatever the host, so long as it takes in the awaited frame as
--- the rules say. They are too long for the checker to run: a proof goes from a list's end to its beginning, one round
+-- Lists that go in rounds, run from two fresh ends on, whatever the ends, so long as they do in the rounds as the rules
+-- say. They are too long for the checker to run: a proof goes from a list's end to its beginning, one round
 -- at a time, with what system and book agree on in between. Assumes nothing.
 use Prim.Native.Nat.{ℕ, zero, suc, _+_, _%_, _≤_, _<_}
 use native.Mathlib.Nat.{mod-lt}
 use native.Mathlib.Omega.{arith}
 use mathlib.Core.Path.{_≡_, refl, sym, ap, _∙_, subst}
 use mathlib.Core.Bool.{Bool, true, false, _&&_}
-use mathlib.Core.List.{List, [], _∷_, _++_}
+use mathlib.Core.List.{List, [], _∷_, _++_, append-nil}
 use mathlib.Core.Option.{some}
 use borrow.Author.Tests.{lt-ltb, le-leb}
-use lib.Dec.{leb, ltb, lit<}
+use lib.Dec.{leb, ltb, lit≤, lit<}
 use lib.ListN.{length, getD, getElem?, length-append}
 use Rattle.seq.specs.Ring.{latest, frameSpace, transSpace}
-use Rattle.bitmap.specs.Marks.{leading}
+use Rattle.seq.proofs.Ring.{latest-is}
 use Rattle.wire.specs.Format.{Message, needed}
 use Rattle.wire.specs.Reading.{number, flags, addressed, good, readFrame}
 use Rattle.wire.specs.Writing.{frameOf}
 use Rattle.wire.proofs.RoundTrip.{Fits, frame-addressed, frame-back, frame-flags, frame-number}
+use Rattle.card.specs.declared.Card.{Card}
 use Rattle.host.specs.declared.Pair.{Pair}
 use Rattle.host.specs.Host.{byNumber, receiveOf}
 use Rattle.host.proofs.Receiving.{received-good}
 use Rattle.delivery.specs.Book.{
   MessageRecord,
+  Transaction,
+  noTransaction,
   FrameRecord,
   noFrame,
   AckRange,
@@ -32,15 +35,17 @@ use Rattle.delivery.specs.Book.{
   Expected,
   Book,
   messagesIn,
+  anyFrame,
   frameAt,
   releasedCount,
   lowestNotAccepted,
+  acceptedMessages,
   addedMessages,
   ofTransaction,
-  allMessagesIn,
   transactionAt,
   unfinishedFrom,
   unfinished,
+  withTransactions,
   withFrames,
   enterOpening,
   enterMessage,
@@ -72,8 +77,11 @@ use Rattle.delivery.specs.System.{
   step,
   run,
   initial,
+  CardResult,
+  StepResult,
   specifiedCard,
   specifiedHost,
+  specified,
   openCall,
   addCall,
   sealCall,
@@ -92,9 +100,10 @@ use Rattle.delivery.specs.Demand3.{
   notTooLate,
   WritesAllowed,
 }
-use Rattle.delivery.specs.WrongEnds.{Receiving, withHost}
+use Rattle.delivery.specs.WrongEnds.{Receiving, withHost, withReading}
 use Rattle.delivery.proofs.Book.Counts.{count}
-use Rattle.delivery.proofs.Host.HostStep.{wired}
+use Rattle.delivery.proofs.Book.Writes.{ofTransaction-cons-same}
+use Rattle.delivery.proofs.Host.HostStep.{wired, low}
 use Rattle.delivery.proofs.Card.CardFor.{framed}
 use Rattle.delivery.proofs.Rest.{Copied}
 use Rattle.delivery.proofs.Agree.{SystemFor}
@@ -115,34 +124,45 @@ use Rattle.delivery.proofs.Lists.Rounds.{
   message,
   sealedFrame,
   acceptedFrame,
+  done,
   past,
   past-length,
   past-append,
   past-next,
-  done,
   past-change,
   past-where,
   past-at,
   past-leads,
+  bare,
+  double,
+  closed,
+  closed-length,
+  closed-append,
+  closed-next,
+  closed-at,
   memory,
   page,
+  TermsFit,
   message-fits,
   page-count,
+  released-is,
+  low-is,
+  unfinished-is,
+  low-open,
   bares,
+  fitting-one,
   page-allowed,
 }
 
 -- ---- the calls of a list
 
--- Round n: a message of no bytes goes into a frame of its own, which is handed out as the n-th, arrives and is
--- acknowledged. k rounds from the n-th on, and then xs.
+-- Round n: a transaction is opened, and its bare message goes into a frame of its own, which is handed out as the n-th,
+-- arrives and is acknowledged. k rounds from the n-th on, and then xs.
 unfoldable pub rounds : ℕ → ℕ → List Event → List Event
 rounds zero n xs = xs
-rounds (suc k) n xs = adds 0 0 [] ∷ seals ∷ shows n ∷ receives n ∷ reads n ∷ rounds k (suc n) xs
-
--- Transaction 0 has a message for each round, as many as a transaction can have; transaction 1 takes two.
-abbrev pub opening : List Event → List Event
-opening xs = opens 65535 0 0 ∷ opens 2 4 0 ∷ xs
+rounds (suc k) n xs =
+    opens 0 0 0 ∷ adds (n % transSpace) 0 [] ∷ seals ∷ shows (n % frameSpace) ∷ receives n ∷ reads n
+    ∷ rounds k (suc n) xs
 
 abbrev pub For : System → Book → Type 0
 For = SystemFor 2 1
@@ -223,10 +243,74 @@ module _ (w : System) (b : Book) (k c : ℕ) (e : MessageRecord) (a : Arrival w 
       received-good h frame (w .memory) (m ∷ []) read has-messages
       ∙ ap (λ (n : ℕ). byNumber h (w .memory) n (m ∷ [])) number-is
 
--- The host takes in the awaited frame as the rules say.
-abbrev pub InTurn : Receiving → Type 0
-InTurn r = (w : System) (b : Book) (k c : ℕ) (e : MessageRecord) → Arrival w b k c e → lowestNotAccepted b ≡ c
-    → step (withHost r) w (receives k) ≡ hostStep specifiedHost w k
+-- Ends that do in the rounds as the rules say: the card but for reading does so always; it reads the acknowledgement of
+-- the oldest frame not released so, and the host takes in the awaited frame so, if its message is of the lowest
+-- transaction not complete.
+pub record InTurn (e : Implementation) : Type 0 where
+  pub opensBoth : BothOpen 2 1 (e .cardEnd .cardOpening 2 1 64 slots₀) (e .hostEnd .hostOpening 1 2)
+  pub freshSame : initial e 2 1 64 slots₀ memory ≡ initial specified 2 1 64 slots₀ memory
+  pub openSame : (w : System) (count address value : ℕ)
+      → step e w (opens count address value) ≡ cardStep specifiedCard w (openCall count address value)
+  pub addSame : (w : System) (t at : ℕ) (bytes : List ℕ)
+      → step e w (adds t at bytes) ≡ cardStep specifiedCard w (addCall t at bytes)
+  pub sealSame : (w : System) → step e w seals ≡ cardStep specifiedCard w sealCall
+  pub showSame : (w : System) (n : ℕ) → step e w (shows n) ≡ cardStep specifiedCard w (showCall n)
+  pub readSame : (w : System) (b : Book) (k c : ℕ) → For w b → getElem? (b .acksDue) k ≡ some (oneFrame c)
+      → releasedCount b ≡ c → step e w (reads k) ≡ cardStep specifiedCard w (readCall k)
+  pub receiveSame : (w : System) (b : Book) (k c : ℕ) (m : MessageRecord) → Arrival w b k c m
+      → lowestNotAccepted b ≡ c → low (b .transactions) (acceptedMessages b) ≡ m .trans
+      → step e w (receives k) ≡ hostStep specifiedHost w k
+
+fresh-open : BothOpen 2 1 (specifiedCard .cardOpening 2 1 64 slots₀) (specifiedHost .hostOpening 1 2)
+unfolding computing
+fresh-open = record { cardFits = cardFits; hostFits = hostFits; cardOpens = refl; hostOpens = refl }
+
+-- another receiving, or another reading
+pub host-in-turn : (r : Receiving)
+    → ((w : System) (b : Book) (k c : ℕ) (m : MessageRecord) → Arrival w b k c m → lowestNotAccepted b ≡ c
+    → low (b .transactions) (acceptedMessages b) ≡ m .trans
+    → step (withHost r) w (receives k) ≡ hostStep specifiedHost w k)
+    → InTurn (withHost r)
+unfolding step initial
+host-in-turn r turn = record {
+  opensBoth = fresh-open;
+  freshSame = refl;
+  openSame = λ w count address value. refl;
+  addSame = λ w t at bytes. refl;
+  sealSame = λ w. refl;
+  showSame = λ w n. refl;
+  readSame = λ w b k c f q z. refl;
+  receiveSame = turn;
+}
+
+pub card-in-turn : (r : Card → List ℕ → List ℕ → CardResult)
+    → ((w : System) (b : Book) (k c : ℕ) → For w b → getElem? (b .acksDue) k ≡ some (oneFrame c)
+    → releasedCount b ≡ c → step (withReading r) w (reads k) ≡ cardStep specifiedCard w (readCall k))
+    → InTurn (withReading r)
+unfolding step initial
+card-in-turn r turn = record {
+  opensBoth = fresh-open;
+  freshSame = refl;
+  openSame = λ w count address value. refl;
+  addSame = λ w t at bytes. refl;
+  sealSame = λ w. refl;
+  showSame = λ w n. refl;
+  readSame = turn;
+  receiveSame = λ w b k c m a p q. refl;
+}
+
+pub specified-in-turn : InTurn specified
+unfolding step
+specified-in-turn = record {
+  opensBoth = fresh-open;
+  freshSame = refl;
+  openSame = λ w count address value. refl;
+  addSame = λ w t at bytes. refl;
+  sealSame = λ w. refl;
+  showSame = λ w n. refl;
+  readSame = λ w b k c f q z. refl;
+  receiveSame = λ w b k c m a p q. refl;
+}
 
 and-is : {x y z : Bool} → x ≡ true → y ≡ z → (x && y) ≡ z
 and-is p q = rw (p, q)
@@ -245,10 +329,7 @@ seam (y ∷ xs) x (suc n) q = seam xs x n (omega arith)
 -- ---- lists from a state on
 
 -- What the list's end is like, and whether all arrivals are in time.
-module _ (r : Receiving) (inTurn : InTurn r) (timely : Bool) (End : System → Book → Type 0) where
-  abbrev ends : Implementation
-  ends = withHost r
-
+module _ (ends : Implementation) (turns : InTurn ends) (timely : Bool) (End : System → Book → Type 0) where
   pub record Leads (xs : List Event) (w : System) (b : Book) : Type 0 where
     pub fitting : allTyped xs ≡ true
     pub timing : notTooLate b (run ends w xs .observations) ≡ timely
@@ -259,11 +340,14 @@ module _ (r : Receiving) (inTurn : InTurn r) (timely : Bool) (End : System → B
   abbrev pub Leading : List Event → Book → Type 0
   Leading xs b = (w : System) → For w b → Leads xs w b
 
-  -- with one call before it
-  pub before : (x : Event) (xs : List Event) (w : System) (b b′ : Book) → typed x ≡ true → inTime b x ≡ true
-      → bookStep b (step ends w x .observation) ≡ b′ → Leads xs (step ends w x .system) b′ → Leads (x ∷ xs) w b
+  -- with one call before it, whose step is s
+  pub before : (x : Event) (xs : List Event) (w : System) (b b′ : Book) (s : StepResult) → step ends w x ≡ s
+      → typed x ≡ true → inTime b x ≡ true → bookStep b (s .observation) ≡ b′ → Leads xs (s .system) b′
+      → Leads (x ∷ xs) w b
   unfolding run bookFrom allTyped notTooLate
-  before x xs w b b′ t i q l = go (subst (Leads xs (step ends w x .system)) (sym q) l)
+  before x xs w b b′ s same t i q l =
+      go (subst (λ (s : StepResult). Leads xs (s .system) (bookStep b (s .observation))) (sym same)
+      (subst (Leads xs (s .system)) (sym q) l))
     where
       go : Leads xs (step ends w x .system) (bookStep b (step ends w x .observation)) → Leads (x ∷ xs) w b
       go s = record {
@@ -278,219 +362,278 @@ module _ (r : Receiving) (inTurn : InTurn r) (timely : Bool) (End : System → B
     unfolding inTime frameInTime
     not-late l = rw (a .copied) (leb-more (lowestNotAccepted b) c _ l)
 
-    pub arrived : bookStep b (step ends w (receives k) .observation) ≡ enterArrival b c
-    unfolding step byHost enter enterDelivery
+    pub arrived : bookStep b (hostStep specifiedHost w k .observation) ≡ enterArrival b c
+    unfolding byHost enter enterDelivery
     arrived = rw (a .copied)
 
-  -- A message is added and its frame sealed; and the i-th frame behind those that are through is handed out.
-  module _ (n : ℕ) (fs : List FrameRecord) (hs : List HandOut) (ds : List AckRange) (ys : List Expected)
-      (unreleased : getD fs 0 noFrame .acknowledged ≡ false) where
+  -- Calls while n rounds are through, and ts and fs are the transactions and frames after them: a transaction is
+  -- opened, a message is added and its frame sealed, the i-th frame of fs is handed out, arrives, is acknowledged.
+  module _ (n : ℕ) (ts : List Transaction) (fs : List FrameRecord) (hs : List HandOut) (ds : List AckRange)
+      (ys : List Expected) (unreleased : getD fs 0 noFrame .acknowledged ≡ false) where
     abbrev here : Book
-    here = page n fs [] hs ds ys
+    here = page n ts fs [] hs ds ys
 
     released : releasedCount here ≡ n
-    released = past-leads (λ x. x .acknowledged) refl n fs unreleased
+    released = released-is n ts fs [] hs ds ys unreleased
 
-    pub sealing : (t : ℕ) → t < 2 → latest transSpace 2 t ≡ t → length fs < 64
-        → count t (addedMessages here) < needed (transactionAt here t .count) → (xs : List Event)
-        → Leading xs (page n (fs ++ (sealedFrame t ∷ [])) [] hs ds ys) → Leading (adds t 0 [] ∷ seals ∷ xs) here
-    unfolding step enterMessage enterSealing typed inTime
-    sealing t known means few room xs later w f =
-        before (adds t 0 []) (seals ∷ xs) w here building typedOk refl added
-        (sealed (cardStep specifiedCard w (addCall t 0 []) .system)
-        (subst (For (cardStep specifiedCard w (addCall t 0 []) .system)) added
-        (step-adds 2 1 cardFits hostFits w here f t 0 [] typedOk)))
+    pub opening : (count address value : ℕ) → typed (opens count address value) ≡ true → length ts < 32
+        → (us : List ℕ) → unfinished here ≡ us → (xs : List Event)
+        → Leading xs (page n (ts ++ (record {
+          count = count;
+          completionAddress = address;
+          completionValue = value;
+          unfinishedAtOpening = us;
+        } ∷ [])) fs [] hs ds ys)
+        → Leading (opens count address value ∷ xs) here
+    unfolding typed inTime enterOpening
+    opening count address value fits few us are xs later w f =
+        before (opens count address value) xs w here next _ (turns .openSame w count address value) fits refl entered
+        (later _ (subst (For (cardStep specifiedCard w (openCall count address value) .system)) entered
+        (step-opens 2 1 cardFits hostFits w here f count address value fits)))
       where
-        typedOk : (ltb t transSpace && ltb 0 transSpace) ≡ true
-        typedOk = and-is (lt-ltb t transSpace (omega arith)) refl
+        new : Transaction
+        new = record { count = count; completionAddress = address; completionValue = value; unfinishedAtOpening = us }
+
+        next : Book
+        next = page n (ts ++ (new ∷ [])) fs [] hs ds ys
+
+        entered : bookStep here (cardStep specifiedCard w (openCall count address value) .observation) ≡ next
+        entered =
+            opening-entered 2 1 cardFits hostFits w here f count address value
+            (omega (arith, closed-length n ts, low-is n ts fs [] hs ds ys unreleased))
+            ∙ ap (λ (l : List ℕ). withTransactions here (closed n ts ++ (record {
+              count = count;
+              completionAddress = address;
+              completionValue = value;
+              unfinishedAtOpening = l;
+            } ∷ []))) are
+            ∙ ap (λ (l : List Transaction). withTransactions here l) (closed-append n ts (new ∷ []))
+
+    pub sealing : (i t num : ℕ) → i < length ts → t ≡ n + i → num ≡ t % transSpace → length ts ≤ 32 → length fs < 64
+        → count t (messagesIn anyFrame fs) < needed (getD ts i noTransaction .count) → (xs : List Event)
+        → Leading xs (page n ts (fs ++ (sealedFrame t ∷ [])) [] hs ds ys) → Leading (adds num 0 [] ∷ seals ∷ xs) here
+    unfolding enterMessage enterSealing typed inTime
+    sealing i t num known is isNumber most few room xs later w f =
+        before (adds num 0 []) (seals ∷ xs) w here building _ (turns .addSame w num 0 []) typedOk refl added
+        (sealed _ (subst (For (cardStep specifiedCard w (addCall num 0 []) .system)) added
+        (step-adds 2 1 cardFits hostFits w here f num 0 [] typedOk)))
+      where
+        typedOk : (ltb num transSpace && ltb 0 transSpace) ≡ true
+        typedOk = and-is (lt-ltb num transSpace (omega arith)) refl
 
         building : Book
-        building = page n fs (message t ∷ []) hs ds ys
+        building = page n ts fs (message t ∷ []) hs ds ys
 
-        added : bookStep here (cardStep specifiedCard w (addCall t 0 []) .observation) ≡ building
+        means : latest transSpace (length (closed n ts)) (t % transSpace) ≡ t
+        means =
+            latest-is transSpace (lit< tt) (length (closed n ts)) t (omega (arith, closed-length n ts))
+            (omega (arith, closed-length n ts))
+
+        more : count t (addedMessages here) < needed (transactionAt here t .count)
+        more =
+            rw (append-nil (messagesIn anyFrame (past 0 n fs)), closed-at n i t ts is)
+            (omega (arith, room, page-count n ts fs [] hs ds ys t (omega arith)))
+
+        added : bookStep here (cardStep specifiedCard w (addCall num 0 []) .observation) ≡ building
         added =
-            adding-entered 2 1 cardFits hostFits w here f t known (omega arith) room refl
-            (omega (arith, released, past-length n fs)) 0
-            ∙ ap (λ (i : ℕ). page n fs (message i ∷ []) hs ds ys) means
+            ap (λ (k : ℕ). bookStep here (cardStep specifiedCard w (addCall k 0 []) .observation)) isNumber
+            ∙ adding-entered 2 1 cardFits hostFits w here f t (omega (arith, closed-length n ts)) more refl
+            (omega (arith, released, past-length 0 n fs)) 0
+            ∙ ap (λ (k : ℕ). page n ts fs (message k ∷ []) hs ds ys) means
 
         sealed : Leading (seals ∷ xs) building
         sealed v g =
-            before seals xs v building (page n (fs ++ (sealedFrame t ∷ [])) [] hs ds ys) refl refl ended
-            (later (cardStep specifiedCard v sealCall .system)
-            (subst (For (cardStep specifiedCard v sealCall .system)) ended
+            before seals xs v building (page n ts (fs ++ (sealedFrame t ∷ [])) [] hs ds ys) _ (turns .sealSame v) refl
+            refl ended
+            (later _ (subst (For (cardStep specifiedCard v sealCall .system)) ended
             (step-seals 2 1 cardFits hostFits v building g)))
           where
             ended : bookStep building (cardStep specifiedCard v sealCall .observation)
-                ≡ page n (fs ++ (sealedFrame t ∷ [])) [] hs ds ys
+                ≡ page n ts (fs ++ (sealedFrame t ∷ [])) [] hs ds ys
             ended =
                 sealing-entered 2 1 cardFits hostFits v building g (omega arith)
-                ∙ ap (λ (l : List FrameRecord). withFrames building l []) (past-append n fs (sealedFrame t ∷ []))
+                ∙ ap (λ (l : List FrameRecord). withFrames building l []) (past-append 0 n fs (sealedFrame t ∷ []))
 
-    pub showing : (i c num : ℕ) → i < length fs → c ≡ n + i → num ≡ c % frameSpace → getD fs i noFrame .acknowledged
-        ≡ false
-        → (xs : List Event) → Leading xs (page n fs [] (hs ++ (frameCopy c ∷ [])) ds ys) → Leading (shows num ∷ xs) here
-    unfolding step enterHandOut typed inTime
+    pub showing : (i c num : ℕ) → i < length fs → c ≡ n + i → num ≡ c % frameSpace
+        → getD fs i noFrame .acknowledged ≡ false → (xs : List Event)
+        → Leading xs (page n ts fs [] (hs ++ (frameCopy c ∷ [])) ds ys) → Leading (shows num ∷ xs) here
+    unfolding enterHandOut typed inTime
     showing i c num inside q isNumber isOpen xs later w f =
-        before (shows num) xs w here (page n fs [] (hs ++ (frameCopy c ∷ [])) ds ys) fits refl handed
-        (later (cardStep specifiedCard w (showCall num) .system)
-        (subst (For (cardStep specifiedCard w (showCall num) .system)) handed
+        before (shows num) xs w here (page n ts fs [] (hs ++ (frameCopy c ∷ [])) ds ys) _ (turns .showSame w num) fits
+        refl handed
+        (later _ (subst (For (cardStep specifiedCard w (showCall num) .system)) handed
         (step-shows 2 1 cardFits hostFits w here f num fits)))
       where
         fits : ltb num frameSpace ≡ true
         fits = lt-ltb num frameSpace (omega arith)
 
         handed : bookStep here (cardStep specifiedCard w (showCall num) .observation)
-            ≡ page n fs [] (hs ++ (frameCopy c ∷ [])) ds ys
+            ≡ page n ts fs [] (hs ++ (frameCopy c ∷ [])) ds ys
         handed =
             ap (λ (k : ℕ). bookStep here (cardStep specifiedCard w (showCall k) .observation)) isNumber
             ∙ showing-entered 2 1 cardFits hostFits w here f c (omega (arith, released))
-            (omega (arith, past-length n fs)) (ap (λ (x : FrameRecord). x .acknowledged) (past-at n i c fs q) ∙ isOpen)
+            (omega (arith, past-length 0 n fs))
+            (ap (λ (x : FrameRecord). x .acknowledged) (past-at 0 n i c fs q) ∙ isOpen)
 
-  -- The frame handed out last arrives in its turn; and the acknowledgement called for last is read.
-  module _ (n : ℕ) (hs : List HandOut) (ds : List AckRange) (ys : List Expected) where
-    receiving : length hs ≡ n → (xs : List Event)
-        → ((zs : List Expected) → Leading xs (page n (acceptedFrame 0 ∷ []) [] (hs ++ (frameCopy n ∷ []))
-        (ds ++ (oneFrame n ∷ [])) zs))
-        → Leading (receives n ∷ xs) (page n (sealedFrame 0 ∷ []) [] (hs ++ (frameCopy n ∷ [])) ds ys)
-    unfolding typed messagesIn enterArrival changeAt
-    receiving long xs later w f =
-        before (receives n) xs w b b′ refl late came
-        (later (b′ .expected) (step ends w (receives n) .system)
-        (subst (λ s. For (s .system) b′) (sym same)
-        (subst (For (hostStep specifiedHost w n .system)) came′
-        (step-receives 2 1 cardFits hostFits w b f n late
-        (subst WritesAllowed (sym came′) (page-allowed n (acceptedFrame 0 ∷ []) (bares (0 ∷ [])) _ _ _))))))
+    -- The i-th frame of fs, which holds one message of transaction t, arrives. How the host takes it in is given.
+    pub receiving : (i c t k : ℕ) → c ≡ n + i → getD fs i noFrame .messages ≡ message t ∷ []
+        → TermsFit (getD (closed n ts) t noTransaction) → getElem? hs k ≡ some (frameCopy c)
+        → lowestNotAccepted here ≤ c → WritesAllowed (page n ts (changeAt fs i markAccepted) [] hs ds ys)
+        → ((w : System) → Arrival w here k c (message t) → step ends w (receives k) ≡ hostStep specifiedHost w k)
+        → (xs : List Event)
+        → ((zs : List Expected)
+        → Leading xs (page n ts (changeAt fs i markAccepted) [] hs (ds ++ (oneFrame c ∷ [])) zs))
+        → Leading (receives k ∷ xs) here
+    unfolding typed enterArrival
+    receiving i c t k is holds fit copied inTurn allowed same xs later w f =
+        before (receives k) xs w here next _ (same w arrival) refl late came
+        (later (next .expected) _ (subst (For (hostStep specifiedHost w k .system)) came
+        (step-receives 2 1 cardFits hostFits w here f k late (subst WritesAllowed (sym came) (kept allowed)))))
       where
-        b : Book
-        b = page n (sealedFrame 0 ∷ []) [] (hs ++ (frameCopy n ∷ [])) ds ys
+        next : Book
+        next = page n ts (changeAt fs i markAccepted) [] hs (ds ++ (oneFrame c ∷ [])) (enterArrival here c .expected)
 
-        b′ : Book
-        b′ = page n (acceptedFrame 0 ∷ []) [] (hs ++ (frameCopy n ∷ [])) (ds ++ (oneFrame n ∷ []))
-            (enterArrival b n .expected)
-
-        arrival : Arrival w b n n (message 0)
-        arrival = record {
-          agree = f;
-          copied = seam hs (frameCopy n) n long;
-          holds = ap (λ (x : FrameRecord). x .messages) (past-at n 0 n (sealedFrame 0 ∷ []) (omega arith));
-          fits = message-fits 0 (lit< tt);
+        kept : WritesAllowed (page n ts (changeAt fs i markAccepted) [] hs ds ys) → WritesAllowed next
+        kept k = record {
+          inside = record { dataInside = k .inside .dataInside; completionInside = k .inside .completionInside };
+          apart = record { onceEach = k .apart .onceEach; apartTogether = k .apart .apartTogether };
         }
 
-        lowest : lowestNotAccepted b ≡ n
-        lowest = past-leads (λ x. x .accepted) refl n (sealedFrame 0 ∷ []) refl
+        arrival : Arrival w here k c (message t)
+        arrival = record {
+          agree = f;
+          copied = copied;
+          holds = ap (λ (x : FrameRecord). x .messages) (past-at 0 n i c fs is) ∙ holds;
+          fits = message-fits (closed n ts) t fit;
+        }
 
-        late : inTime b (receives n) ≡ true
-        late = not-late w b n n (message 0) arrival (omega (arith, lowest))
+        late : inTime here (receives k) ≡ true
+        late = not-late w here k c (message t) arrival inTurn
 
-        same : step ends w (receives n) ≡ hostStep specifiedHost w n
-        same = inTurn w b n n (message 0) arrival lowest
-
-        came : bookStep b (step ends w (receives n) .observation) ≡ b′
+        came : bookStep here (hostStep specifiedHost w k .observation) ≡ next
         came =
-            arrived w b n n (message 0) arrival
-            ∙ ap (λ (l : List FrameRecord). withFrames b′ l [])
-            (past-change n 0 n (sealedFrame 0 ∷ []) markAccepted (omega arith))
+            arrived w here k c (message t) arrival
+            ∙ ap (λ (l : List FrameRecord). withFrames next l []) (past-change 0 n i c fs markAccepted is)
 
-        came′ : bookStep b (hostStep specifiedHost w n .observation) ≡ b′
-        came′ = subst (λ s. bookStep b (s .observation) ≡ b′) same came
-
-    reading : length ds ≡ n → (xs : List Event) → Leading xs (page (suc n) [] [] hs (ds ++ (oneFrame n ∷ [])) ys)
-        → Leading (reads n ∷ xs) (page n (acceptedFrame 0 ∷ []) [] hs (ds ++ (oneFrame n ∷ [])) ys)
-    unfolding step typed inTime ackInTime enterAck markWhere
-    reading long xs later w f =
-        before (reads n) xs w b b′ refl late came
-        (later (cardStep specifiedCard w (readCall n) .system)
-        (subst (For (cardStep specifiedCard w (readCall n) .system)) came
-        (step-reads 2 1 cardFits hostFits w b f n late)))
+    -- The acknowledgement of frame c, called for k-th, is read. How the card reads it is given.
+    pub reading : (c k : ℕ) → getElem? ds k ≡ some (oneFrame c) → n ≤ c
+        → ((w : System) → For w here → step ends w (reads k) ≡ cardStep specifiedCard w (readCall k))
+        → (xs : List Event)
+        → Leading xs (page n ts (markWhere (λ i. covers (oneFrame c) (n + i)) markAcknowledged fs) [] hs ds ys)
+        → Leading (reads k ∷ xs) here
+    unfolding typed inTime ackInTime enterAck
+    reading c k due inTurn same xs later w f =
+        before (reads k) xs w here next _ (same w f) refl late came
+        (later _ (subst (For (cardStep specifiedCard w (readCall k) .system)) came
+        (step-reads 2 1 cardFits hostFits w here f k late)))
       where
-        b : Book
-        b = page n (acceptedFrame 0 ∷ []) [] hs (ds ++ (oneFrame n ∷ [])) ys
+        next : Book
+        next = page n ts (markWhere (λ i. covers (oneFrame c) (n + i)) markAcknowledged fs) [] hs ds ys
 
-        b′ : Book
-        b′ = page (suc n) [] [] hs (ds ++ (oneFrame n ∷ [])) ys
+        late : inTime here (reads k) ≡ true
+        late = rw due (leb-more (releasedCount here) c _ (omega (arith, released)))
 
-        -- frame n is the first behind those that are through
-        first-marked : markWhere (λ i. covers (oneFrame n) (n + i)) markAcknowledged (acceptedFrame 0 ∷ []) ≡ done ∷ []
-        first-marked = rw (le-leb n (n + 0) (omega arith), lt-ltb (n + 0) (n + 1) (omega arith)) refl
-
-        due : getElem? (ds ++ (oneFrame n ∷ [])) n ≡ some (oneFrame n)
-        due = seam ds (oneFrame n) n long
-
-        late : inTime b (reads n) ≡ true
-        late =
-            rw due
-            (leb-more (releasedCount b) n _
-            (omega (arith, past-leads (λ x. x .acknowledged) refl n (acceptedFrame 0 ∷ []) refl)))
-
-        came : bookStep b (cardStep specifiedCard w (readCall n) .observation) ≡ b′
+        came : bookStep here (cardStep specifiedCard w (readCall k) .observation) ≡ next
         came =
-            reading-entered 2 1 cardFits hostFits w b f n (oneFrame n) due
-            ∙ ap (λ (l : List FrameRecord). withFrames b l [])
-            (past-where markAcknowledged refl (covers (oneFrame n)) n (acceptedFrame 0 ∷ [])
-            ∙ ap (past n) first-marked ∙ past-next n [])
+            reading-entered 2 1 cardFits hostFits w here f k (oneFrame c) due
+            ∙ ap (λ (l : List FrameRecord). withFrames here l [])
+            (past-where markAcknowledged (λ t. refl) (covers (oneFrame c)) 0 n fs)
 
   module _ (n : ℕ) (hs : List HandOut) (ds : List AckRange) (ys : List Expected) where
-    round : n < 65535 → length hs ≡ n → length ds ≡ n → (xs : List Event)
-        → ((zs : List Expected) → Leading xs (page (suc n) [] [] (hs ++ (frameCopy n ∷ []))
+    abbrev one : List Transaction
+    one = bare ∷ []
+
+    bare-at : TermsFit (getD (closed n one) n noTransaction)
+    bare-at =
+        subst TermsFit (sym (closed-at n 0 n one (omega arith)))
+        (record { count-fits = lit< tt; address-fits = lit< tt; value-fits = lit< tt })
+
+    none-else : unfinished (page n [] [] [] hs ds ys) ≡ []
+    unfolding unfinishedFrom
+    none-else = unfinished-is n [] [] [] hs ds ys refl
+
+    first-marked : markWhere (λ i. covers (oneFrame n) (n + i)) markAcknowledged (acceptedFrame n ∷ []) ≡ done n ∷ []
+    unfolding markWhere
+    first-marked = rw (le-leb n (n + 0) (omega arith), lt-ltb (n + 0) (n + 1) (omega arith)) refl
+
+    through : (hs′ : List HandOut) (ds′ : List AckRange) (zs : List Expected)
+        → page (suc n) [] [] [] hs′ ds′ zs
+        ≡ page n one (markWhere (λ i. covers (oneFrame n) (n + i)) markAcknowledged (acceptedFrame n ∷ [])) [] hs′ ds′
+        zs
+    through hs′ ds′ zs =
+        sym (rw (first-marked, closed-next n [], past-next 0 n n [] (omega arith)) refl)
+
+    round : length hs ≡ n → length ds ≡ n → (xs : List Event)
+        → ((zs : List Expected) → Leading xs (page (suc n) [] [] [] (hs ++ (frameCopy n ∷ []))
         (ds ++ (oneFrame n ∷ [])) zs))
-        → Leading (adds 0 0 [] ∷ seals ∷ shows n ∷ receives n ∷ reads n ∷ xs) (page n [] [] hs ds ys)
-    unfolding latest needed messagesIn ofTransaction
-    round below long due xs later =
-        sealing n [] hs ds ys refl 0 (lit< tt) refl (lit< tt) (omega (arith, page-count n [] hs ds ys .0)) _
-        (showing n (sealedFrame 0 ∷ []) hs ds ys refl 0 n n (lit< tt) (omega arith) (omega arith) refl _
-        (receiving n hs ds ys long _ (λ zs. reading n (hs ++ (frameCopy n ∷ [])) ds zs due xs (later zs))))
+        → Leading (opens 0 0 0 ∷ adds (n % transSpace) 0 [] ∷ seals ∷ shows (n % frameSpace) ∷ receives n ∷ reads n
+        ∷ xs) (page n [] [] [] hs ds ys)
+    unfolding typed needed messagesIn ofTransaction changeAt
+    round long due xs later =
+        opening n [] [] hs ds ys refl 0 0 0 refl (lit< tt) [] none-else _
+        (sealing n one [] hs ds ys refl 0 n (n % transSpace) (lit< tt) (omega arith) refl (lit≤ tt) (lit< tt) (lit< tt)
+        _
+        (showing n one (sealedFrame n ∷ []) hs ds ys refl 0 n (n % frameSpace) (lit< tt) (omega arith) refl refl _
+        (receiving n one (sealedFrame n ∷ []) hs′ ds ys refl 0 n n n (omega arith) refl bare-at
+        (seam hs (frameCopy n) n long) (omega (arith, lowest))
+        (page-allowed n one (acceptedFrame n ∷ []) (fitting-one n 0 0) (bares (n ∷ [])) _ _ _) in-turn _
+        (λ zs. reading n one (acceptedFrame n ∷ []) hs′ ds′ zs refl n n (seam ds (oneFrame n) n due) (omega arith)
+        (λ w f. turns .readSame w _ n n f (seam ds (oneFrame n) n due)
+        (released-is n one (acceptedFrame n ∷ []) [] hs′ ds′ zs refl)) xs
+        (subst (Leading xs) (through hs′ ds′ zs) (later zs))))))
+      where
+        hs′ : List HandOut
+        hs′ = hs ++ (frameCopy n ∷ [])
 
-  pub all-rounds : (k n : ℕ) → n + k ≤ 65535 → (ys : List Expected) (xs : List Event)
-      → ((zs : List Expected) → Leading xs (page (n + k) [] [] (roundCopies (n + k)) (roundAcks (n + k)) zs))
-      → Leading (rounds k n xs) (page n [] [] (roundCopies n) (roundAcks n) ys)
+        ds′ : List AckRange
+        ds′ = ds ++ (oneFrame n ∷ [])
+
+        waiting : Book
+        waiting = page n one (sealedFrame n ∷ []) [] hs′ ds ys
+
+        lowest : lowestNotAccepted waiting ≡ n
+        lowest = past-leads (λ x. x .accepted) (λ t. refl) n (sealedFrame n ∷ []) refl
+
+        in-turn : (w : System) → Arrival w waiting n n (message n)
+            → step ends w (receives n) ≡ hostStep specifiedHost w n
+        in-turn w a =
+            turns .receiveSame w waiting n n (message n) a lowest
+            (low-open n one (sealedFrame n ∷ []) [] hs′ ds ys refl)
+
+  pub all-rounds : (k n : ℕ) (ys : List Expected) (xs : List Event)
+      → ((zs : List Expected) → Leading xs (page (n + k) [] [] [] (roundCopies (n + k)) (roundAcks (n + k)) zs))
+      → Leading (rounds k n xs) (page n [] [] [] (roundCopies n) (roundAcks n) ys)
   unfolding rounds roundCopies roundAcks
-  all-rounds zero n q ys xs later =
-      subst (λ (m : ℕ). Leading xs (page m [] [] (roundCopies m) (roundAcks m) ys)) (omega arith) (later ys)
-  all-rounds (suc k) n q ys xs later =
-      round n (roundCopies n) (roundAcks n) ys (omega arith) (copies-length n) (acks-length n) (rounds k (suc n) xs)
-      (λ zs. all-rounds k (suc n) (omega arith) zs xs
-      (λ vs. subst (λ (m : ℕ). Leading xs (page m [] [] (roundCopies m) (roundAcks m) vs)) (omega arith) (later vs)))
+  all-rounds zero n ys xs later =
+      subst (λ (m : ℕ). Leading xs (page m [] [] [] (roundCopies m) (roundAcks m) ys)) (omega arith) (later ys)
+  all-rounds (suc k) n ys xs later =
+      round n (roundCopies n) (roundAcks n) ys (copies-length n) (acks-length n) (rounds k (suc n) xs)
+      (λ zs. all-rounds k (suc n) zs xs
+      (λ vs. subst (λ (m : ℕ). Leading xs (page m [] [] [] (roundCopies m) (roundAcks m) vs)) (omega arith)
+      (later vs)))
 
-  -- the two openings lead to the first round
-  from-empty : (xs : List Event) → Leading xs (page 0 [] [] [] [] []) → Leading (opening xs) (emptyBook memory)
-  unfolding step enterOpening emptyBook typed inTime unfinished unfinishedFrom allMessagesIn messagesIn ofTransaction
-      needed leading past
-  from-empty xs later w f =
-      before (opens 65535 0 0) _ w (emptyBook memory) one refl refl first-opened
-      (then (cardStep specifiedCard w (openCall 65535 0 0) .system)
-      (subst (For (cardStep specifiedCard w (openCall 65535 0 0) .system)) first-opened
-      (step-opens 2 1 cardFits hostFits w (emptyBook memory) f 65535 0 0 refl)))
-    where
-      one : Book
-      one = enterOpening (emptyBook memory) 65535 0 0
-
-      first-opened : bookStep (emptyBook memory) (cardStep specifiedCard w (openCall 65535 0 0) .observation) ≡ one
-      first-opened = opening-entered 2 1 cardFits hostFits w (emptyBook memory) f 65535 0 0 (lit< tt)
-
-      then : Leading (opens 2 4 0 ∷ xs) one
-      then v g =
-          before (opens 2 4 0) _ v one (page 0 [] [] [] [] []) refl refl opened
-          (later (cardStep specifiedCard v (openCall 2 4 0) .system)
-          (subst (For (cardStep specifiedCard v (openCall 2 4 0) .system)) opened
-          (step-opens 2 1 cardFits hostFits v one g 2 4 0 refl)))
-        where
-          opened : bookStep one (cardStep specifiedCard v (openCall 2 4 0) .observation) ≡ page 0 [] [] [] [] []
-          opened = opening-entered 2 1 cardFits hostFits v one g 2 4 0 (lit< tt)
+  -- A transaction of two messages is opened, and each goes into a frame of its own.
+  pub two-sealed : (n num : ℕ) (hs : List HandOut) (ds : List AckRange) (ys : List Expected) → num ≡ n % transSpace
+      → (xs : List Event) → Leading xs (page n (double ∷ []) (sealedFrame n ∷ sealedFrame n ∷ []) [] hs ds ys)
+      → Leading (opens 2 0 0 ∷ adds num 0 [] ∷ seals ∷ adds num 0 [] ∷ seals ∷ xs) (page n [] [] [] hs ds ys)
+  unfolding typed needed messagesIn ofTransaction
+  two-sealed n num hs ds ys is xs later =
+      opening n [] [] hs ds ys refl 2 0 0 refl (lit< tt) [] (none-else n hs ds ys) _
+      (sealing n (double ∷ []) [] hs ds ys refl 0 n num (lit< tt) (omega arith) is (lit≤ tt) (lit< tt) (lit< tt) _
+      (sealing n (double ∷ []) (sealedFrame n ∷ []) hs ds ys refl 0 n num (lit< tt) (omega arith) is (lit≤ tt)
+      (lit< tt) (omega (arith, ap length (ofTransaction-cons-same n (message n) [] refl))) xs later))
 
   abbrev pub start : System
   start = initial ends 2 1 64 slots₀ memory
 
-  pub both-open : BothOpen 2 1 (ends .cardEnd .cardOpening 2 1 64 slots₀) (ends .hostEnd .hostOpening 1 2)
-  unfolding computing
-  both-open = record { cardFits = cardFits; hostFits = hostFits; cardOpens = refl; hostOpens = refl }
-
   -- n rounds from two fresh ends on, and then xs
-  pub whole : (n : ℕ) → n ≤ 65535 → (xs : List Event)
-      → ((zs : List Expected) → Leading xs (page n [] [] (roundCopies n) (roundAcks n) zs))
-      → Leads (opening (rounds n 0 xs)) start (emptyBook memory)
-  unfolding initial roundCopies roundAcks
-  whole n few xs later =
-      from-empty (rounds n 0 xs)
-      (all-rounds n 0 (omega arith) [] xs
-      (λ zs. subst (λ (m : ℕ). Leading xs (page m [] [] (roundCopies m) (roundAcks m) zs)) (omega arith) (later zs)))
-      start (starts 2 1 cardFits hostFits 64 slots₀ memory both-open)
+  pub whole : (n : ℕ) (xs : List Event)
+      → ((zs : List Expected) → Leading xs (page n [] [] [] (roundCopies n) (roundAcks n) zs))
+      → Leads (rounds n 0 xs) start (emptyBook memory)
+  unfolding roundCopies roundAcks emptyBook past closed
+  whole n xs later =
+      let is : n ≡ 0 + n = omega arith in
+      all-rounds n 0 [] xs
+      (λ zs. subst (λ (m : ℕ). Leading xs (page m [] [] [] (roundCopies m) (roundAcks m) zs)) is (later zs))
+      start (subst (λ (w : System). For w (emptyBook memory)) (sym (turns .freshSame))
+      (starts 2 1 cardFits hostFits 64 slots₀ memory fresh-open))

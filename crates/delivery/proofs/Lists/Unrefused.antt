@@ -1,21 +1,20 @@
 -- Calls that the card does not refuse, by the book: opening and adding while the windows have room, sealing what is
 -- built, showing a frame that is sealed and not acknowledged, reading an acknowledgement. Assumes nothing.
 use Prim.Native.Nat.{ℕ, _+_, _-_, _%_, _≤_, _<_}
-use native.Mathlib.Nat.{mod-eq-of-lt}
 use native.Mathlib.Omega.{arith}
-use mathlib.Core.Path.{_≡_, ap, _∙_, subst}
+use mathlib.Core.Path.{_≡_, sym, ap, _∙_, subst}
 use mathlib.Core.Bool.{true, false, and-false}
 use mathlib.Core.List.{List, [], _∷_, map}
 use borrow.Author.Tests.{lt-ltb, le-ltb, lt-leb, ne-eqb}
 use lib.Dec.{eqb, lit<}
-use lib.ListN.{length}
+use lib.ListN.{length, getD}
 use Rattle.seq.specs.Ring.{frameSpace, transSpace, distance, inRange}
 use Rattle.seq.proofs.Ring.{distance-ahead}
 use Rattle.bitmap.specs.Marks.{mark}
 use Rattle.wire.specs.Format.{needed, nextHeader}
 use Rattle.wire.proofs.Format.{length-frame}
 use Rattle.send_window.specs.Window.{unreleased, held}
-use Rattle.sendings.specs.Sendings.{opened, sendingAt, openingRefusal, takes}
+use Rattle.sendings.specs.Sendings.{noSending, opened, sendingAt, openingRefusal, takes}
 use Rattle.card.specs.declared.Card.{Card}
 use Rattle.card.specs.Card.{openTransaction, addRefusal, showRefusal}
 use Rattle.card.proofs.Slots.{limit-least, Built}
@@ -44,27 +43,34 @@ module _ (cardId hostId : ℕ) (w : System) (b : Book) (f : SystemFor cardId hos
       (omega (arith, opened-is c slots b (f .cardFor) (f .sound), low-most c slots b (f .cardFor) (f .sound))))
 
   -- a message with no data, of transaction i, as the first of a frame
-  module _ (i : ℕ) (least : low ≤ i) (isOpen : i < length (b .transactions)) (fits-number : i < transSpace)
+  module _ (i : ℕ) (least : low ≤ i) (isOpen : i < length (b .transactions))
       (more : inAll b i < needed (transactionAt b i .count)) (noneBuilt : b .building ≡ [])
       (room : length (b .frames) < releasedCount b + 64) where
-    terms : TermsFor (sendingAt (c .sendings) i) b i
-    terms = f .cardFor .termsAre i least isOpen
+    abbrev num : ℕ
+    num = i % transSpace
 
-    in-window : inRange transSpace (c .sendings .lowest .0) (opened (c .sendings)) i ≡ true
+    same-entry : num % 32 ≡ i % 32
+    same-entry = omega arith
+
+    terms : TermsFor (sendingAt (c .sendings) num) b i
+    terms =
+        subst (λ (k : ℕ). TermsFor (getD (c .sendings .table) k noSending) b i) (sym same-entry)
+        (f .cardFor .termsAre i least isOpen)
+
+    in-window : inRange transSpace (c .sendings .lowest .0) (opened (c .sendings)) num ≡ true
     in-window =
-        let d : distance transSpace (low % transSpace) (i % transSpace) ≡ i - low =
+        let d : distance transSpace (low % transSpace) num ≡ i - low =
         distance-ahead transSpace (lit< tt) low i least (omega (arith, f .sound .transFit)) in
-        let e : distance transSpace (c .sendings .lowest .0) i ≡ i - low =
-        rw (f .cardFor .transLowIs) (rw (mod-eq-of-lt fits-number) at d) in
-        lt-ltb (distance transSpace (c .sendings .lowest .0) i) (opened (c .sendings))
+        let e : distance transSpace (c .sendings .lowest .0) num ≡ i - low = rw (f .cardFor .transLowIs) d in
+        lt-ltb (distance transSpace (c .sendings .lowest .0) num) (opened (c .sendings))
         (omega (arith, e, opened-is c slots b (f .cardFor) (f .sound)))
 
-    takes-one : takes (c .sendings) i ≡ true
+    takes-one : takes (c .sendings) num ≡ true
     unfolding takes
     takes-one =
         rw (
           in-window,
-          lt-ltb (sendingAt (c .sendings) i .added) (needed (sendingAt (c .sendings) i .count))
+          lt-ltb (sendingAt (c .sendings) num .added) (needed (sendingAt (c .sendings) num .count))
               (omega (arith, terms .addedIs, ap needed (terms .countIs), more)),
         )
 
@@ -73,13 +79,13 @@ module _ (cardId hostId : ℕ) (w : System) (b : Book) (f : SystemFor cardId hos
         subst (λ (es : List MessageRecord). Built c slots (map (wired (b .transactions)) es)) noneBuilt
         (f .cardFor .builtIs)
 
-    pub adds-unrefused : addRefusal c slots i [] ≡ 0
+    pub adds-unrefused : addRefusal c slots num [] ≡ 0
     unfolding addRefusal nextHeader
     adds-unrefused =
         rw (
           f .cardFor .fitted,
           takes-one,
-          and-false (eqb (sendingAt (c .sendings) i .count) 0),
+          and-false (eqb (sendingAt (c .sendings) num .count) 0),
           lt-leb 64 (unreleased (c .window)) (omega (arith, unreleased-is c slots b (f .cardFor) (f .sound))),
           none-used,
           le-ltb (c .limit) 34 (limit-least (c .limit) slots (f .cardFor .fitted)),

@@ -1,26 +1,28 @@
 -- Demand 3 shuts out the older host, which takes a new frame for an old copy once frame numbers have come round: it
--- compares the 16-bit numbers plainly, so that frame 65,536, whose number is 0, lies "plainlyBehind" while frame 65,535 is
--- awaited; and a frame that is plainlyBehind it acknowledges and throws away. Nothing of this shows before the numbers come
+-- compares the 16-bit numbers plainly, so that frame 65,536, whose number is 0, lies "behind" while frame 65,535 is
+-- awaited; and a frame that is behind it acknowledges and throws away. Nothing of this shows before the numbers come
 -- round. So the list that refutes it brings 65,535 frames through in order, loses the next one and delivers the one
 -- after. Assumes nothing.
 use Prim.Native.Nat.{ℕ, suc, _%_}
 use native.Mathlib.Nat.{sub-self}
 use native.Mathlib.Omega.{arith}
-use mathlib.Core.Path.{_≡_, refl, sym, ap, _∙_}
+use mathlib.Core.Path.{_≡_, refl, sym, ap, _∙_, subst}
 use mathlib.Core.Bool.{Bool, true, false}
 use mathlib.Core.List.{List, [], _∷_, _++_, map}
 use borrow.Author.Tests.{ltb-true, ne-eqb}
 use lib.Dec.{lit<}
 use lib.ListN.{length, getD}
-use Rattle.seq.specs.Ring.{distance, latest, frameSpace}
+use Rattle.seq.specs.Ring.{distance, frameSpace}
 use Rattle.seq.proofs.Ring.{distance-ahead}
-use Rattle.wire.specs.Format.{Message, needed}
+use Rattle.wire.specs.Format.{Message}
 use Rattle.wire.specs.Reading.{flags}
 use Rattle.host.specs.declared.Pair.{Pair}
 use Rattle.host.specs.declared.Answer.the-variants.{Again}
 use Rattle.host.specs.Host.{Received, unchanged, byNumber, receiveOf}
 use Rattle.delivery.specs.Book.{
   MessageRecord,
+  Transaction,
+  noTransaction,
   FrameRecord,
   AckRange,
   oneFrame,
@@ -32,7 +34,7 @@ use Rattle.delivery.specs.Book.{
   messagesIn,
   frameAt,
   lowestNotAccepted,
-  ofTransaction,
+  acceptedMessages,
   changeAt,
   markAccepted,
   firstAnswer,
@@ -41,6 +43,7 @@ use Rattle.delivery.specs.Book.{
 }
 use Rattle.delivery.specs.System.{
   Event,
+  opens,
   adds,
   seals,
   shows,
@@ -64,13 +67,12 @@ use Rattle.delivery.specs.Demand3.{
   Demand3For,
 }
 use Rattle.delivery.specs.WrongEnds.{plainlyBehind, numberedPlainly, answeredPlainly, comparesPlainly, older}
-use Rattle.delivery.proofs.Host.HostStep.{wired}
+use Rattle.delivery.proofs.Host.HostStep.{wired, low}
 use Rattle.delivery.proofs.Lists.Check.{slots₀}
 use Rattle.delivery.proofs.Wrong.Excluded.{kind}
 use Rattle.delivery.proofs.Book.Along.{last, last-is}
 use Rattle.delivery.proofs.Lists.RoundsRun.{
   rounds,
-  opening,
   roundCopies,
   roundAcks,
   copies-length,
@@ -79,14 +81,15 @@ use Rattle.delivery.proofs.Lists.RoundsRun.{
   has-messages,
   number-is,
   by-its-number,
+  InTurn,
+  host-in-turn,
   seam,
   Leading,
   before,
   not-late,
   arrived,
-  sealing,
   showing,
-  both-open,
+  two-sealed,
   whole,
 }
 use Rattle.delivery.proofs.Lists.Rounds.{
@@ -97,11 +100,15 @@ use Rattle.delivery.proofs.Lists.Rounds.{
   past-change,
   past-at,
   past-leads,
+  double,
+  closed,
+  closed-at,
   memory,
   page,
+  TermsFit,
   message-fits,
-  page-count,
   bares,
+  fitting-one,
   page-allowed,
 }
 
@@ -109,10 +116,10 @@ use Rattle.delivery.proofs.Lists.Rounds.{
 
 -- After the rounds two more frames are sealed. The first is never handed out. The second has number 0, and it arrives.
 abbrev after : ℕ → List Event
-after n = adds 1 0 [] ∷ seals ∷ adds 1 0 [] ∷ seals ∷ shows 0 ∷ receives n ∷ []
+after n = opens 2 0 0 ∷ adds n 0 [] ∷ seals ∷ adds n 0 [] ∷ seals ∷ shows 0 ∷ receives n ∷ []
 
 events : List Event
-events = opening (rounds 65535 0 (after 65535))
+events = rounds 65535 0 (after 65535)
 
 abbrev Wrong : System → Book → Type 0
 Wrong w b = Guarantees (outcomeOf w) b → ⊥
@@ -148,9 +155,10 @@ module _ (w : System) (b : Book) (k c : ℕ) (e : MessageRecord) (a : Arrival w 
       (ap (λ (n : ℕ). numberedPlainly h (w .memory) n (m ∷ [])) (number-is w b k c e a))
 
   -- the frame that is awaited: as the rules say
-  pub in-turn : lowestNotAccepted b ≡ c → step older w (receives k) ≡ hostStep specifiedHost w k
+  in-turn : lowestNotAccepted b ≡ c → low (b .transactions) (acceptedMessages b) ≡ e .trans
+      → step older w (receives k) ≡ hostStep specifiedHost w k
   unfolding step byHost acksFor numberedPlainly byNumber
-  in-turn awaited = rw same
+  in-turn awaited lowest = rw same
     where
       next-is : h .next .0 ≡ num
       next-is = a .agree .rest .hostFor .nextIs ∙ ap (λ (n : ℕ). n % frameSpace) awaited
@@ -172,54 +180,66 @@ module _ (w : System) (b : Book) (k c : ℕ) (e : MessageRecord) (a : Arrival w 
 
 -- ---- the list, from its end on
 
-module _ (n : ℕ) (hs : List HandOut) (ds : List AckRange) (ys : List Expected) where
+older-in-turn : InTurn older
+older-in-turn = host-in-turn comparesPlainly in-turn
+
+module _ (n : ℕ) (is : n ≡ 65535) (hs : List HandOut) (ds : List AckRange) (ys : List Expected) where
   abbrev two : List FrameRecord
-  two = sealedFrame 1 ∷ sealedFrame 1 ∷ []
+  two = sealedFrame n ∷ sealedFrame n ∷ []
+
+  abbrev terms : List Transaction
+  terms = double ∷ []
 
   -- The book expects frame 65,536 to be accepted, and the older host, which awaits frame 65,535, answers "again".
-  lost : n ≡ 65535 → length hs ≡ n → Leading comparesPlainly in-turn true Wrong (receives n ∷ [])
-      (page n two [] (hs ++ (frameCopy (suc n) ∷ [])) ds ys)
-  unfolding plainlyBehind typed allTyped notTooLate run bookFrom step byHost messagesIn enterArrival changeAt seenAs numberedAs
-      kind
-  lost is long w f =
-      before comparesPlainly in-turn true Wrong (receives n) [] w b b′ refl
-      (not-late comparesPlainly in-turn true Wrong w b n (suc n) (message 1) arrival (omega (arith, lowest)))
-      (arrived comparesPlainly in-turn true Wrong w b n (suc n) (message 1) arrival
-      ∙ rw (new, past-change n 1 (suc n) two markAccepted (omega arith)))
+  lost : length hs ≡ n → Leading older older-in-turn true Wrong (receives n ∷ [])
+      (page n terms two [] (hs ++ (frameCopy (suc n) ∷ [])) ds ys)
+  unfolding plainlyBehind typed allTyped notTooLate run bookFrom step byHost messagesIn enterArrival changeAt seenAs
+      numberedAs kind
+  lost long w f =
+      before older older-in-turn true Wrong (receives n) [] w b b′ _ refl refl
+      (not-late older older-in-turn true Wrong w b n (suc n) (message n) arrival (omega (arith, lowest)))
+      (arrived older older-in-turn true Wrong w b n (suc n) (message n) arrival
+      ∙ rw (new, past-change 0 n 1 (suc n) two markAccepted (omega arith)))
       (record {
         fitting = refl;
         timing = refl;
-        allowed = page-allowed n (sealedFrame 1 ∷ acceptedFrame 1 ∷ []) (bares (1 ∷ 1 ∷ [])) _ _ _;
+        allowed = page-allowed n terms (sealedFrame n ∷ acceptedFrame n ∷ []) (fitting-one n 2 0) (bares (n ∷ n ∷ [])) _
+            _ _;
         reached = λ g. differ (g .answersMatch);
       })
     where
       b : Book
-      b = page n two [] (hs ++ (frameCopy (suc n) ∷ [])) ds ys
+      b = page n terms two [] (hs ++ (frameCopy (suc n) ∷ [])) ds ys
 
       expects : Expected
-      expects = firstAnswer b (suc n) (past n (sealedFrame 1 ∷ acceptedFrame 1 ∷ []))
+      expects = firstAnswer b (suc n) (past 0 n (sealedFrame n ∷ acceptedFrame n ∷ []))
 
       b′ : Book
-      b′ = page n (sealedFrame 1 ∷ acceptedFrame 1 ∷ []) [] (hs ++ (frameCopy (suc n) ∷ []))
+      b′ = page n terms (sealedFrame n ∷ acceptedFrame n ∷ []) [] (hs ++ (frameCopy (suc n) ∷ []))
           (ds ++ (oneFrame (suc n) ∷ []))
           (ys ++ (expects ∷ []))
 
-      there : frameAt b (suc n) ≡ sealedFrame 1
-      there = past-at n 1 (suc n) two (omega arith)
+      there : frameAt b (suc n) ≡ sealedFrame n
+      there = past-at 0 n 1 (suc n) two (omega arith)
 
       new : frameAt b (suc n) .accepted ≡ false
       new = ap (λ (x : FrameRecord). x .accepted) there
 
-      arrival : Arrival w b n (suc n) (message 1)
+      fit : TermsFit (getD (closed n terms) n noTransaction)
+      fit =
+          subst TermsFit (sym (closed-at n 0 n terms (omega arith)))
+          (record { count-fits = lit< tt; address-fits = lit< tt; value-fits = lit< tt })
+
+      arrival : Arrival w b n (suc n) (message n)
       arrival = record {
         agree = f;
         copied = seam hs (frameCopy (suc n)) n long;
         holds = ap (λ (x : FrameRecord). x .messages) there;
-        fits = message-fits 1 (lit< tt);
+        fits = message-fits (closed n terms) n fit;
       }
 
       lowest : lowestNotAccepted b ≡ n
-      lowest = past-leads (λ x. x .accepted) refl n two refl
+      lowest = past-leads (λ x. x .accepted) (λ t. refl) n two refl
 
       -- number 0 against number 65,535
       compared : plainlyBehind (suc n % frameSpace) (lowestNotAccepted b % frameSpace) ≡ true
@@ -229,7 +249,7 @@ module _ (n : ℕ) (hs : List HandOut) (ds : List AckRange) (ys : List Expected)
       received = comparesPlainly (w .host) (getD (w .handOuts) n []) (w .memory)
 
       again : received ≡ unchanged (w .host) (w .memory) (Again (record { 0 = suc n % frameSpace }))
-      again = says-again w b n (suc n) (message 1) arrival compared
+      again = says-again w b n (suc n) (message n) arrival compared
 
       differ : map seenAs (w .answers ++ (received .answer ∷ [])) ≡ map numberedAs (ys ++ (expects ∷ [])) → ⊥
       differ q =
@@ -240,24 +260,18 @@ module _ (n : ℕ) (hs : List HandOut) (ds : List AckRange) (ys : List Expected)
           ∙ ap kind (last-is numberedAs ys expects expectNoEffect) in
           omega arith
 
-  pub after-rounds : n ≡ 65535 → length hs ≡ n → Leading comparesPlainly in-turn true Wrong (after n)
-      (page n [] [] hs ds ys)
-  unfolding latest needed messagesIn ofTransaction
-  after-rounds is long =
-      sealing comparesPlainly in-turn true Wrong n [] hs ds ys refl 1 (lit< tt) refl (lit< tt)
-      (omega (arith, page-count n [] hs ds ys .1)) _
-      (sealing comparesPlainly in-turn true Wrong n (sealedFrame 1 ∷ []) hs ds ys refl 1 (lit< tt) refl (lit< tt)
-      (omega (arith, page-count n (sealedFrame 1 ∷ []) hs ds ys .1)) _
-      (showing comparesPlainly in-turn true Wrong n two hs ds ys refl 1 (suc n) 0 (lit< tt) (omega arith)
-      (omega arith) refl _ (lost is long)))
+  after-rounds : length hs ≡ n → Leading older older-in-turn true Wrong (after n) (page n [] [] [] hs ds ys)
+  after-rounds long =
+      two-sealed older older-in-turn true Wrong n n hs ds ys (omega arith) _
+      (showing older older-in-turn true Wrong n terms two hs ds ys refl 1 (suc n) 0 (lit< tt) (omega arith)
+      (omega arith) refl _ (lost long))
 
 -- ---- the theorem
 
 not-older : Demand3For older → ⊥
 unfolding Demand3For events
 not-older d =
-    let r = whole comparesPlainly in-turn true Wrong 65535 (omega arith) (after 65535)
-    (λ zs. after-rounds 65535 (roundCopies 65535) (roundAcks 65535) zs refl (copies-length 65535)) in
+    let r = whole older older-in-turn true Wrong 65535 (after 65535)
+    (λ zs. after-rounds 65535 refl (roundCopies 65535) (roundAcks 65535) zs (copies-length 65535)) in
     r .reached
-    (d 2 1 64 slots₀ memory events (both-open comparesPlainly in-turn true Wrong) (r .fitting) (r .timing)
-    (r .allowed))
+    (d 2 1 64 slots₀ memory events (older-in-turn .opensBoth) (r .fitting) (r .timing) (r .allowed))
