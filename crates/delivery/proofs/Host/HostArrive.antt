@@ -242,7 +242,8 @@ start-arriving b c = refl
 
 module _ (h : Pair) (b : Book) (r : HostFor h b) (s : Sound b) (c : ℕ) (kept : WritesAllowed (enterArrival b c))
     (inside : c < length (b .frames)) (inTime : lowestNotAccepted b ≤ c + 32768)
-    (isNew : frameAt b c .accepted ≡ false) where
+    (isNew : frameAt b c .accepted ≡ false)
+    (countsFit : (i : ℕ) → i < length (b .transactions) → transactionAt b i .count < 65536) where
   abbrev es : List MessageRecord
   es = frameAt b c .messages
 
@@ -275,6 +276,7 @@ module _ (h : Pair) (b : Book) (r : HostFor h b) (s : Sound b) (c : ℕ) (kept :
               dataIn = omega (arith, size-memory b);
               completionIn = omega
                   (arith, size-memory b);
+              countFits = countsFit (e .trans) (s .known e me);
             },
             go xs (λ x k. m x (List·Memᴰ·tail k)),
           )

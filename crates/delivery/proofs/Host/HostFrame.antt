@@ -42,11 +42,12 @@ use Rattle.delivery.proofs.Host.HostStep.{
   for-closing,
 }
 
--- What a message writes lies inside, and a bare message is bare.
+-- What a message writes lies inside, a bare message is bare, and the count fits its field.
 pub record InsideOne (ds : List Transaction) (size : ℕ) (e : MessageRecord) : Type 0 where
   pub bare : getD ds (e .trans) noTransaction .count ≡ 0 → e .bytes ≡ []
   pub dataIn : e .dataAddress + length (e .bytes) ≤ size
   pub completionIn : getD ds (e .trans) noTransaction .completionAddress + 4 ≤ size
+  pub countFits : getD ds (e .trans) noTransaction .count < 65536
 
 abbrev pub Inside : List Transaction → ℕ → List MessageRecord → Type 0
 Inside ds size [] = Unit {0}
@@ -175,7 +176,7 @@ module _ (ds : List Transaction) (pre : List MessageRecord) (e : MessageRecord) 
           record {
             next = after l (wired ds e) x;
             nextFor = for-holding l ds (pre ++ post) (pre ++ (e ∷ post)) r e fit isKnown notFull one
-                (count-others pre e post) beyond f;
+                (count-others pre e post) beyond f (inside .countFits);
             notRefused = ap (λ (y : Verdict). y .refusal) is;
             takenIn = ap (takeIn t (wired ds e)) is ∙ with-verdict x false f refl;
           }

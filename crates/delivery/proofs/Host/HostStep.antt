@@ -1,14 +1,14 @@
 -- The host's transactions against the book's, and one message: it is not refused, and the two agree after it.
 -- Assumes nothing.
 use Prim.Native.Nat.{ℕ, suc, _+_, _-_, _%_, _≤_, _<_}
-use native.Mathlib.Nat.{mod-add-mod, mod-lt}
+use native.Mathlib.Nat.{mod-add-mod, mod-lt, mod-eq-of-lt}
 use native.Mathlib.Decide.{decLe, decLt, ℕ-discrete}
 use native.Mathlib.Omega.{arith}
 use mathlib.Core.Path.{_≡_, refl, sym, ap, _∙_, subst}
 use mathlib.Core.Logic.{_≢_}
 use mathlib.Core.Bool.{Bool, true, false, cond, _&&_}
 use mathlib.Core.List.{List, []}
-use borrow.Author.Tests.{eq-eqb, eqb-true, lt-leb, le-ltb}
+use borrow.Author.Tests.{eq-eqb, ne-eqb, eqb-true, le-leb, lt-leb, leb-false, le-ltb}
 use lib.Dec.{eqb, ltb, leb, lit<, eqb·suc-zero}
 use lib.ListN.{length, getD, set, length-set}
 use lib.Seq.{getD-set-same, getD-set-other}
@@ -27,10 +27,9 @@ use Rattle.bitmap.proofs.Marks.{
   window-marks,
 }
 use Rattle.wire.specs.Format.{Message, headOf, needed}
-use Rattle.wire.proofs.Format.{needed-pos}
 use Rattle.host.specs.declared.Open.{Open}
 use Rattle.host.specs.Terms.{free, agrees, termsRefusal, addressRefusal}
-use Rattle.host.specs.Transactions.{fills, closing, holding, verdictOf, Transactions, verdict, after}
+use Rattle.host.specs.Transactions.{fills, oneMore, closing, holding, verdictOf, Transactions, verdict, after}
 use Rattle.delivery.specs.Book.{MessageRecord, Transaction, noTransaction, allMessagesIn}
 use Rattle.delivery.proofs.Book.Counts.{count, not-full-none}
 
@@ -173,6 +172,25 @@ slots-differ a i t h₁ h₂ h₃ h₄ n q = go (decLe i t)
 pub full-beyond : (ds : List Transaction) (es : List MessageRecord) (i : ℕ) → count i es ≡ 0 → fullAt ds es i ≡ false
 full-beyond ds es i z = not-full-none (getD ds i noTransaction) i es z
 
+-- one message more than too few: that it makes the number full says that it reaches it
+just-full : (n c : ℕ) → leb n c ≡ false → eqb n (suc c) ≡ leb n (suc c)
+just-full n c h = go (decLe n (suc c))
+  where
+    less : c < n
+    less = leb-false n c h
+
+    go : Dec (n ≤ suc c) → eqb n (suc c) ≡ leb n (suc c)
+    go (yes k) = eq-eqb n (suc c) (omega (arith, less, k)) ∙ sym (le-leb n (suc c) k)
+    go (no k) = ne-eqb n (suc c) (λ q. k (omega (arith, q))) ∙ sym (lt-leb n (suc c) (omega (arith, k)))
+
+needed-fits : (c : ℕ) → c < 65536 → needed c < 65536
+unfolding needed
+needed-fits c h = go (eqb c 0)
+  where
+    go : (b : Bool) → cond b 1 c < 65536
+    go true = lit< tt
+    go false = h
+
 -- ---- after the message
 
 module _ (l : Transactions) (ds : List Transaction) (es es′ : List MessageRecord) (r : TransactionsFor l ds es)
@@ -202,10 +220,10 @@ module _ (l : Transactions) (ds : List Transaction) (es es′ : List MessageReco
 
   pub fills-is : fills was (headOf (wired ds e)) ≡ fullAt ds es′ (e .trans)
   unfolding fills allMessagesIn headOf
-  fills-is = rw (received-is l ds es r e fit isKnown notFull, one)
+  fills-is = rw (received-is l ds es r e fit isKnown notFull, one) (just-full _ (count (e .trans) es) notFull)
 
   -- not yet complete: the same windows, one more received
-  module _ (still : fullAt ds es′ (e .trans) ≡ false) where
+  module _ (still : fullAt ds es′ (e .trans) ≡ false) (countFits : getD ds (e .trans) noTransaction .count < 65536) where
     full-same : (i : ℕ) → fullAt ds es′ i ≡ fullAt ds es i
     full-same i = go (ℕ-discrete (e .trans) i)
       where
@@ -240,15 +258,29 @@ module _ (l : Transactions) (ds : List Transaction) (es es′ : List MessageReco
         (slots-differ (low ds es) i (e .trans) a b bound (omega arith) n)
         ∙ r .entriesAre i a b ∙ sym (entry-others i n)
 
+    -- fewer were received than the count's field holds, so that the number received does not come round
+    left-is : oneMore was (headOf (wired ds e)) ≡ new
+    unfolding headOf new allMessagesIn
+    left-is =
+        let d = getD ds (e .trans) noTransaction in
+        let less = leb-false (needed (d .count)) (count (e .trans) es′) still in
+        let same = received-is l ds es r e fit isKnown notFull in
+        ap (underway d) (mod-eq-of-lt (omega (arith, less, same, one, needed-fits (d .count) countFits)))
+
     pub for-holding : TransactionsFor
         (after l (wired ds e) (holding (l .lowest) (l .closed) was (headOf (wired ds e)))) ds es′
-    unfolding after holding headOf new
-    for-holding = record {
-      lowestIs = rw low-same (r .lowestIs);
-      closedIs = λ i. rw (low-same, full-same (low ds es + i)) (r .closedIs i);
-      entriesAre = λ i a b. entry-kept i (rw low-same at a) (rw low-same at b) (ℕ-discrete (e .trans) i);
-      entries = length-set (l .table) k new ∙ r .entries;
-    }
+    unfolding after holding headOf
+    for-holding =
+        subst
+        (λ (o : Open).
+          TransactionsFor (record { lowest = l .lowest; closed = l .closed; table = set (l .table) k o }) ds es′)
+        (sym left-is)
+        (record {
+          lowestIs = rw low-same (r .lowestIs);
+          closedIs = λ i. rw (low-same, full-same (low ds es + i)) (r .closedIs i);
+          entriesAre = λ i a b. entry-kept i (rw low-same at a) (rw low-same at b) (ℕ-discrete (e .trans) i);
+          entries = length-set (l .table) k new ∙ r .entries;
+        })
 
   -- complete now: marked, and the window moved past it where it was the lowest
   module _ (now : fullAt ds es′ (e .trans) ≡ true) where

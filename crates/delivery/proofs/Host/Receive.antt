@@ -569,7 +569,8 @@ module _ (cardId hostId : ℕ) (cardFits : cardId < frameSpace) (hostFits : host
           ∙ ap (λ (m : List ℕ). unchanged h m (Again (record { 0 = c % frameSpace }))) (sym (f .rest .memoryIs)))
           (after-again c inside e)
       go false e =
-          let t = answers-first h b (f .rest .hostFor) (f .sound) c kept inside late e in
+          let t = answers-first h b (f .rest .hostFor) (f .sound) c kept inside late e
+          (λ i l. f .rest .typed .termsTyped i l .count-fits) in
           rw (got ∙ t .answered)
           (after-first c inside e (t .next) (t .nextFor) (t .sameOwn ∙ f .rest .hostOwn)
           (t .samePeer ∙ f .rest .hostPeer))
