@@ -27,8 +27,8 @@ use Rattle.wire.specs.Writing.{
 }
 use Rattle.wire.proofs.Format.{length-laid-one, length-frame}
 use Rattle.wire.proofs.Building.{lastAt, last-more, length-more, first-built, next-built}
-use Rattle.send_window.specs.Window.{unreleased}
-use Rattle.sendings.specs.Sendings.{sendingAt, takes}
+use Rattle.card.specs.Window.{unreleased}
+use Rattle.card.specs.Sendings.{sendingAt, takes}
 use Rattle.card.specs.declared.Card.{Card}
 use Rattle.card.specs.Card.{
   cardRefusal,
@@ -36,7 +36,7 @@ use Rattle.card.specs.Card.{
   fits,
   slotStart,
   slotOf,
-  headerPlace,
+  headerOffset,
   builtSlot,
   builtSlots,
   withMessage,
@@ -86,7 +86,7 @@ pub record Addable (c : Card) (slots : List ℕ) (t : ℕ) (bytes : List ℕ) : 
   pub takes-more : takes (c .sendings) t ≡ true
   pub bare-empty : (eqb (sendingAt (c .sendings) t .count) 0 && ltb 0 (length bytes)) ≡ false
   pub slot-free : leb 64 (unreleased (c .window)) ≡ false
-  pub in-slot : ltb (c .limit) (headerPlace c + 24 + length bytes) ≡ false
+  pub in-slot : ltb (c .limit) (headerOffset c + 24 + length bytes) ≡ false
 
 pub addable : (c : Card) (slots : List ℕ) (t : ℕ) (bytes : List ℕ) → addRefusal c slots t bytes ≡ 0 → Addable c slots t bytes
 unfolding addRefusal
@@ -106,8 +106,8 @@ addable c slots t bytes e =
 
 -- a message of an addable size lies in the slot
 pub room-in : (c : Card) (slots : List ℕ) (t : ℕ) (bytes : List ℕ) → Addable c slots t bytes
-    → headerPlace c + 24 + length bytes ≤ c .limit
-room-in c slots t bytes a = ltb-false (c .limit) (headerPlace c + 24 + length bytes) (a .in-slot)
+    → headerOffset c + 24 + length bytes ≤ c .limit
+room-in c slots t bytes a = ltb-false (c .limit) (headerOffset c + 24 + length bytes) (a .in-slot)
 
 -- ---- stores outside a part of a buffer
 
@@ -242,7 +242,7 @@ built-same c c′ slots (m ∷ ms) p o n l u t k = rw (p, o, n, l, u, t) k
 
 -- One message more, where it fits the slot.
 module _ (c : Card) (slots : List ℕ) (m : Message) (ok : fits (c .limit) slots ≡ true)
-    (room : endOf (headerPlace c) m ≤ c .limit) where
+    (room : endOf (headerOffset c) m ≤ c .limit) where
   abbrev at : ℕ
   at = c .window .next .0
 
@@ -259,7 +259,7 @@ module _ (c : Card) (slots : List ℕ) (m : Message) (ok : fits (c .limit) slots
   after = own-slot c slots m (buffer-long (c .limit) slots ok)
 
   -- the first one
-  pub first-place : c .used ≡ 0 → headerPlace c ≡ 10
+  pub first-place : c .used ≡ 0 → headerOffset c ≡ 10
   unfolding nextHeader
   first-place e = rw e
 
@@ -275,14 +275,14 @@ module _ (c : Card) (slots : List ℕ) (m : Message) (ok : fits (c .limit) slots
     abbrev so-far : List ℕ
     so-far = frameOf (c .peer) (c .own) at (x ∷ xs)
 
-    pub built-later : take (endOf (headerPlace c) m) (slotOf c (builtSlots c slots m) at)
+    pub built-later : take (endOf (headerOffset c) m) (slotOf c (builtSlots c slots m) at)
         ≡ frameOf (c .peer) (c .own) at ((x ∷ xs) ++ (m ∷ []))
     unfolding builtSlot
     built-later =
         let u : c .used ≡ length so-far = built .0 in
         let l : length so-far ≡ 10 + length (laid 10 (x ∷ xs)) = length-frame (c .peer) (c .own) at (x ∷ xs) in
         let some : eqb (c .used) 0 ≡ false = ne-eqb (c .used) 0 (λ e. omega arith) in
-        let r : roomFor slot (endOf (nextHeader (length so-far)) m) ≡ true = rw u at (has-room (endOf (headerPlace c) m) room) in
+        let r : roomFor slot (endOf (nextHeader (length so-far)) m) ≡ true = rw u at (has-room (endOf (headerOffset c) m) room) in
         rw (after, some, u, built .1) (next-built slot (c .peer) (c .own) at x xs m (built .2) r)
 
   -- So the frame of the messages so far and this one is being built.
@@ -292,11 +292,11 @@ module _ (c : Card) (slots : List ℕ) (m : Message) (ok : fits (c .limit) slots
   built-more t [] k =
       let l : length (frameOf (c .peer) (c .own) at (m ∷ [])) ≡ endOf 10 m =
       length-frame (c .peer) (c .own) at (m ∷ []) ∙ length-laid-one 10 m in
-      let p : headerPlace c ≡ 10 = first-place k in
+      let p : headerOffset c ≡ 10 = first-place k in
       (rw (p, l), p, rw l (built-first k))
   built-more t (x ∷ xs) k =
       let u : c .used ≡ 10 + length (laid 10 (x ∷ xs)) = k .0 ∙ length-frame (c .peer) (c .own) at (x ∷ xs) in
-      let l : length (frameOf (c .peer) (c .own) at ((x ∷ xs) ++ (m ∷ []))) ≡ endOf (headerPlace c) m =
+      let l : length (frameOf (c .peer) (c .own) at ((x ∷ xs) ++ (m ∷ []))) ≡ endOf (headerOffset c) m =
       length-frame (c .peer) (c .own) at ((x ∷ xs) ++ (m ∷ [])) ∙ length-more m 10 x xs
       ∙ ap (λ (n : ℕ). endOf (nextHeader n) m) (sym u) in
       (sym l, ap nextHeader u ∙ sym (last-more m 10 x xs), rw l (built-later x xs k))

@@ -9,7 +9,7 @@ use lib.Seq.{sets}
 use Rattle.wire.specs.Format.{Message, nextHeader, frameMost}
 use Rattle.wire.specs.Reading.{addressed, readFrame, refusalOf, ackStart, ackCount}
 use Rattle.wire.specs.Writing.{endOf, firstMessage, nextMessage}
-use Rattle.send_window.specs.Window.{
+use Rattle.card.specs.Window.{
   emptyWindow,
   unreleased,
   held,
@@ -19,7 +19,7 @@ use Rattle.send_window.specs.Window.{
   sealing,
   acknowledging,
 }
-use Rattle.sendings.specs.Sendings.{noSendings, sendingAt, openingRefusal, opening, takes, adding, finishing}
+use Rattle.card.specs.Sendings.{noSendings, sendingAt, openingRefusal, opening, takes, adding, finishing}
 use Rattle.card.specs.declared.Card.{Card}
 use Rattle.card.specs.declared.Stepped.{Stepped}
 use Rattle.card.specs.declared.TransOpened.{TransOpened}
@@ -85,8 +85,8 @@ abbrev pub slotOf : Card → List ℕ → ℕ → List ℕ
 slotOf c slots n = take (c .limit) (drop (slotStart c n) slots)
 
 -- Where the header of the next message goes. Nothing built is 0 bytes, and the first header is at 10.
-abbrev pub headerPlace : Card → ℕ
-headerPlace c = nextHeader (c .used)
+abbrev pub headerOffset : Card → ℕ
+headerOffset c = nextHeader (c .used)
 
 unfoldable pub addRefusal : Card → List ℕ → ℕ → List ℕ → ℕ
 addRefusal c slots t bytes =
@@ -94,7 +94,7 @@ addRefusal c slots t bytes =
     (cond (not (takes (c .sendings) t)) 23
     (cond (eqb (sendingAt (c .sendings) t .count) 0 && ltb 0 (length bytes)) 27
     (cond (leb 64 (unreleased (c .window))) 21
-    (cond (ltb (c .limit) (headerPlace c + 24 + length bytes)) 22 0))))
+    (cond (ltb (c .limit) (headerOffset c + 24 + length bytes)) 22 0))))
 
 -- The message takes the terms of its transaction.
 unfoldable pub messageOf : Card → ℕ → ℕ → List ℕ → Message
@@ -120,8 +120,8 @@ withMessage c t bytes = record {
   own = c .own;
   peer = c .peer;
   limit = c .limit;
-  used = headerPlace c + 24 + length bytes;
-  last = headerPlace c;
+  used = headerOffset c + 24 + length bytes;
+  last = headerOffset c;
   window = c .window;
   sendings = adding (c .sendings) t (c .window .next .0);
 }

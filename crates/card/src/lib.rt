@@ -1,13 +1,41 @@
-// The card's end of a pair, and opening it. Assumes nothing. It promises a fresh card or the refusal; what the six steps do with
-// a card is defined in specs/Card.antt, and the crates assembly, acknowledgements and retransmission do it.
-use send_window::SendWindow;
-use sendings::Sendings;
+// The card's end of a pair as a value: its sealed frames, its transactions, and what its steps answer. Definitions only:
+// specs/Card.antt says what opening and the six steps make of a card, and specs/Reachable.antt what holds of every card that they
+// hand back. The crates card_words, card_build, card_acks and card_send do the steps on a card kept in lent words.
 use seq::FrameNo;
 use seq::TransNo;
 ghost use mathlib.Core.Path.{_≡_};
-ghost use mathlib.Core.Bool.{Bool, true, false, cond};
+ghost use mathlib.Core.Bool.{Bool, true, false};
 ghost use Prim.Native.Nat.{_*_, _%_, _<_};
-ghost use Rattle.card.specs.Card.{freshCard, fits, openCard};
+ghost use Rattle.wire.specs.Format.{needed};
+ghost use Rattle.card.specs.Card.{fits};
+
+// The sealed frames. Bit i of acked stands for the frame base + i and is set where that is acknowledged. The frame n is in slot n
+// modulo 64 and has the length that sizes gives there.
+pub struct SendWindow {
+    pub acked: u64,
+    pub next: FrameNo,
+    pub base: FrameNo,
+    pub sizes: [u16; 64],
+}
+
+// A transaction as the card sends it: its terms, how many of its messages are added, and the number of the frame that the latest
+// of them went into.
+pub struct Sending {
+    pub address: u32,
+    pub value: u32,
+    pub count: u16,
+    pub added: u16,
+    pub latest: FrameNo,
+}
+
+// The transactions. next is the number that the next opening gives, lowest the lowest unfinished one. Bit i of finished stands for
+// the transaction lowest + i.
+pub struct Sendings {
+    pub next: TransNo,
+    pub lowest: TransNo,
+    pub finished: u32,
+    pub table: [Sending; 32],
+}
 
 // used is the length of the frame being built, 0 where there is none, and last the offset of its last message header.
 pub struct Card {
@@ -20,7 +48,7 @@ pub struct Card {
     pub sendings: Sendings,
 }
 
-// Refusal 0 is none.
+// What a step makes of a card. Refusal 0 is none.
 pub struct Stepped {
     pub card: Card,
     pub refusal: u8,
@@ -36,22 +64,6 @@ pub struct Sealed {
     pub card: Card,
     pub refusal: u8,
     pub number: FrameNo,
-}
-
-// ---- opening the card
-
-fn fresh_card(own: u16, peer: u16, limit: u16) -> Card
-    ensures { λ r. ⌜ r ≡ freshCard own peer limit ⌝ }
-{
-    Card {
-        own,
-        peer,
-        limit,
-        used: 0,
-        last: 0,
-        window: send_window::empty_window(),
-        sendings: sendings::no_sendings(),
-    }
 }
 
 // Whether a frame limit is one, and the slot buffer has 64 slots of it.
@@ -74,39 +86,12 @@ pub fn slot_start(limit: u16, n: FrameNo) -> usize
     (n.0 % 64) as usize * limit as usize
 }
 
-// The first of two refusals whose test holds, by its number, and 0 for none.
-pub fn first_refusal(one: bool, number: u8, other: bool, second: u8) -> u8
-    ensures { λ r. ⌜ r ≡ cond one number (cond other second 0) ⌝ }
+// The messages that a transaction takes: one bare one for count 0.
+pub fn messages_of(count: u16) -> u16
+    ensures { λ r. ⌜ r ≡ needed count ⌝ }
 {
-    if one {
-        return number;
+    if count == 0 {
+        return 1;
     }
-    if other {
-        return second;
-    }
-    0
-}
-
-// Opens a card with a frame limit: 13 where an ID is 0, then 26 where the limit or the slot buffer is not as it must be.
-pub fn open_card(own: u16, peer: u16, limit: usize, slots: &[u8]) -> Stepped
-    ensures { λ r. ⌜ r ≡ openCard own peer limit (now (slots .entry)) ⌝ }
-{
-    let no_id = (own == 0) | (peer == 0);
-    let fitting = is_fitting(limit, slots);
-    let refusal = first_refusal(
-        no_id,
-        refusal::ID_ZERO,
-        !fitting,
-        refusal::BAD_LIMIT_OR_SLOTS,
-    );
-    if refusal != 0 {
-        return Stepped {
-            card: fresh_card(0, 0, 0),
-            refusal,
-        };
-    }
-    Stepped {
-        card: fresh_card(own, peer, limit as u16),
-        refusal: 0,
-    }
+    count
 }

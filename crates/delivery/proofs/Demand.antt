@@ -14,8 +14,8 @@ use Rattle.bitmap.proofs.Marks.{mark-of-zero, leading-le}
 use Rattle.host.specs.Terms.{free}
 use Rattle.host.specs.declared.Opened.{Opened}
 use Rattle.host.specs.Host.{fresh, openedOf}
-use Rattle.send_window.specs.Window.{emptyWindow, unreleased}
-use Rattle.sendings.specs.Sendings.{noSending, noSendings}
+use Rattle.card.specs.Window.{emptyWindow, unreleased}
+use Rattle.card.specs.Sendings.{noSending, noSendings}
 use Rattle.card.specs.declared.Stepped.{Stepped}
 use Rattle.card.specs.Card.{freshCard, fits, cardRefusal, openCard}
 use Rattle.delivery.specs.Book.{

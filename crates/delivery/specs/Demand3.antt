@@ -12,7 +12,7 @@ use Rattle.host.specs.declared.Sums.{Sums}
 use Rattle.host.specs.declared.Opened.{Opened}
 use Rattle.host.specs.declared.Answer.{Answer}
 use Rattle.host.specs.declared.Answer.the-variants.{Accepted, Again, NoMessages, Refused}
-use Rattle.send_window.specs.Window.{unreleased}
+use Rattle.card.specs.Window.{unreleased}
 use Rattle.delivery.specs.System.{
   CardResult,
   Implementation,

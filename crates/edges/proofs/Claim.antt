@@ -11,8 +11,8 @@ use Rattle.wire.specs.Writing.{frameHead, messageHead, laid, frameOf, roomFor, 
 use Rattle.host.specs.Terms.{agrees, termsRefusal, addressRefusal}
 use Rattle.host.specs.Transactions.{fills, refusing, closing, holding, verdictOf, verdict, after}
 use Rattle.host.specs.Host.{effect, takeIn, takeAll, accepting, byNumber, receiveOf}
-use Rattle.send_window.specs.Window.{emptyWindow}
-use Rattle.sendings.specs.Sendings.{noSendings, openingRefusal, opening, takes, adding}
+use Rattle.card.specs.Window.{emptyWindow}
+use Rattle.card.specs.Sendings.{noSendings, openingRefusal, opening, takes, adding}
 use Rattle.card.specs.Card.{
   freshCard,
   fits,

@@ -15,13 +15,13 @@ use lib.Seq.{take-all}
 use Rattle.seq.specs.Ring.{frameSpace, transSpace, distance, inRange, latest}
 use Rattle.seq.proofs.Ring.{latest-is, same-count}
 use Rattle.wire.specs.Format.{Message, needed}
-use Rattle.send_window.specs.Window.{unreleased}
-use Rattle.sendings.specs.declared.Sending.{Sending}
-use Rattle.sendings.specs.Sendings.{noSending, opened, sendingAt, oneMore, adding}
-use Rattle.sendings.proofs.Adding.{takes-opened, takes-lacks}
-use Rattle.sendings.proofs.Finishing.{taking-is}
+use Rattle.card.specs.Window.{unreleased}
+use Rattle.card.specs.declared.Sending.{Sending}
+use Rattle.card.specs.Sendings.{noSending, opened, sendingAt, oneMore, adding}
+use Rattle.card.proofs.Adding.{takes-opened, takes-lacks}
+use Rattle.card.proofs.Finishing.{taking-is}
 use Rattle.card.specs.declared.Card.{Card}
-use Rattle.card.specs.Card.{fits, headerPlace, addRefusal, messageOf, builtSlots, withMessage, addMessage}
+use Rattle.card.specs.Card.{fits, headerOffset, addRefusal, messageOf, builtSlots, withMessage, addMessage}
 use Rattle.card.proofs.Slots.{Built, Addable, addable, room-in, buffer-long, length-slots, other-slot, built-more}
 use Rattle.delivery.specs.Book.{
   Book,
@@ -152,7 +152,7 @@ module _ (c : Card) (slots : List ℕ) (b : Book) (r : CardFor c slots b) (s : S
   unfolding addMessage
   add-done = rw ok
 
-  pub fits-slot : headerPlace c + 24 + length bytes ≤ c .limit
+  pub fits-slot : headerOffset c + 24 + length bytes ≤ c .limit
   fits-slot = room-in c slots t bytes may
 
   -- ---- counts of messages

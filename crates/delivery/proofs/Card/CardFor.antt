@@ -29,9 +29,9 @@ use Rattle.seq.specs.Ring.{frameSpace, transSpace, advance}
 use Rattle.bitmap.specs.Marks.{mark}
 use Rattle.bitmap.proofs.Marks.{leading-le, leading-holds, leading-stops, leading-is}
 use Rattle.wire.specs.Writing.{frameOf}
-use Rattle.send_window.specs.Window.{unreleased}
-use Rattle.sendings.specs.declared.Sending.{Sending}
-use Rattle.sendings.specs.Sendings.{noSending, opened, sendingAt, openingRefusal, opening}
+use Rattle.card.specs.Window.{unreleased}
+use Rattle.card.specs.declared.Sending.{Sending}
+use Rattle.card.specs.Sendings.{noSending, opened, sendingAt, openingRefusal, opening}
 use Rattle.card.specs.declared.Card.{Card}
 use Rattle.card.specs.Card.{fits, slotOf, openTransaction}
 use Rattle.card.proofs.Slots.{Built, built-same}
@@ -123,12 +123,12 @@ module _ (c : Card) (slots : List ℕ) (b : Book) (r : CardFor c slots b) (s : S
 
   pub unreleased-is : unreleased (c .window) ≡ length (b .frames) - releasedCount b
   unreleased-is =
-      Rattle.send_window.proofs.Window.unreleased-is (c .window) (releasedCount b) (length (b .frames)) released-most
+      Rattle.card.proofs.Window.unreleased-is (c .window) (releasedCount b) (length (b .frames)) released-most
       (s .framesFit) (r .lowIs) (r .nextIs)
 
   pub opened-is : opened (c .sendings) ≡ length (b .transactions) - lowUnfinished b
   opened-is =
-      Rattle.sendings.proofs.Finishing.opened-is (c .sendings) (lowUnfinished b) (length (b .transactions)) low-most
+      Rattle.card.proofs.Finishing.opened-is (c .sendings) (lowUnfinished b) (length (b .transactions)) low-most
       (s .transFit) (r .transLowIs) (r .transNextIs)
 
 -- ---- what stays where the book's other columns change

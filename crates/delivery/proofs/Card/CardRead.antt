@@ -15,12 +15,12 @@ use Rattle.bitmap.specs.Marks.{mark, leading}
 use Rattle.bitmap.proofs.Marks.{leading-le, leading-holds, leading-mono}
 use Rattle.wire.specs.Format.{needed}
 use Rattle.wire.proofs.Format.{needed-pos}
-use Rattle.send_window.specs.declared.SendWindow.{SendWindow}
-use Rattle.send_window.specs.Window.{acknowledging, releasing}
-use Rattle.send_window.proofs.Window.{base-after, marks-after, next-after}
-use Rattle.sendings.specs.declared.Sending.{Sending}
-use Rattle.sendings.specs.Sendings.{sendingAt, delivered, finishing, passing}
-use Rattle.sendings.proofs.Finishing.{not-delivered, delivered-is, lowest-after, finished-after}
+use Rattle.card.specs.declared.SendWindow.{SendWindow}
+use Rattle.card.specs.Window.{acknowledging, releasing}
+use Rattle.card.proofs.Window.{base-after, marks-after, next-after}
+use Rattle.card.specs.declared.Sending.{Sending}
+use Rattle.card.specs.Sendings.{sendingAt, delivered, finishing, passing}
+use Rattle.card.proofs.Finishing.{not-delivered, delivered-is, lowest-after, finished-after}
 use Rattle.card.specs.declared.Card.{Card}
 use Rattle.card.specs.Card.{acknowledged}
 use Rattle.card.proofs.Slots.{Built, built-same}

@@ -14,9 +14,9 @@ use lib.Seq.{getD-append-seam, take-append-le, take-all}
 use Rattle.seq.specs.Ring.{frameSpace, advance}
 use Rattle.bitmap.specs.Marks.{mark, leading}
 use Rattle.bitmap.proofs.Marks.{leading-holds, leading-stops, leading-is, leading-same}
-use Rattle.send_window.specs.Window.{unreleased, held, beforeHeld, oldestHeld, sealing}
-use Rattle.send_window.proofs.Window.{held-is, none-before-held, oldest-base}
-use Rattle.sendings.specs.Sendings.{sendingAt}
+use Rattle.card.specs.Window.{unreleased, held, beforeHeld, oldestHeld, sealing}
+use Rattle.card.proofs.Window.{held-is, none-before-held, oldest-base}
+use Rattle.card.specs.Sendings.{sendingAt}
 use Rattle.card.specs.declared.Card.{Card}
 use Rattle.card.specs.Card.{slotOf, sealRefusal, sealFrame, frameIn}
 use Rattle.card.proofs.Slots.{Built, frame-in}

@@ -19,8 +19,8 @@ use Rattle.wire.specs.Reading.{number, addressed}
 use Rattle.wire.specs.Writing.{frameHead, frameOf, ackFrame}
 use Rattle.wire.proofs.Reading.{read-short}
 use Rattle.wire.proofs.RoundTrip.{ack-addressed, ack-back, ack-start, ack-count}
-use Rattle.send_window.specs.Window.{unreleased, held}
-use Rattle.sendings.specs.Sendings.{opened}
+use Rattle.card.specs.Window.{unreleased, held}
+use Rattle.card.specs.Sendings.{opened}
 use Rattle.card.specs.declared.Card.{Card}
 use Rattle.card.specs.Card.{
   addRefusal,

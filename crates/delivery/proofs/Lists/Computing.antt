@@ -9,8 +9,8 @@ use Rattle.wire.specs.Writing.{frameHead, messageHead, laid, frameOf, ackFrame,
 use Rattle.host.specs.Terms.{agrees, termsRefusal, addressRefusal}
 use Rattle.host.specs.Transactions.{fills, refusing, closing, holding, verdictOf, verdict, after}
 use Rattle.host.specs.Host.{fresh, openedOf, effect, takeIn, takeAll, accepting, byNumber, receiveOf, acknowledgementOf}
-use Rattle.send_window.specs.Window.{emptyWindow, held, beforeHeld, sealing, acknowledgedBy, releasing, acknowledging}
-use Rattle.sendings.specs.Sendings.{
+use Rattle.card.specs.Window.{emptyWindow, held, beforeHeld, sealing, acknowledgedBy, releasing, acknowledging}
+use Rattle.card.specs.Sendings.{
   noSendings,
   openingRefusal,
   opening,

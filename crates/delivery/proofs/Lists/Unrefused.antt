@@ -13,8 +13,8 @@ use Rattle.seq.proofs.Ring.{distance-ahead}
 use Rattle.bitmap.specs.Marks.{mark}
 use Rattle.wire.specs.Format.{needed, nextHeader}
 use Rattle.wire.proofs.Format.{length-frame}
-use Rattle.send_window.specs.Window.{unreleased, held}
-use Rattle.sendings.specs.Sendings.{noSending, opened, sendingAt, openingRefusal, takes}
+use Rattle.card.specs.Window.{unreleased, held}
+use Rattle.card.specs.Sendings.{noSending, opened, sendingAt, openingRefusal, takes}
 use Rattle.card.specs.declared.Card.{Card}
 use Rattle.card.specs.Card.{openTransaction, addRefusal, showRefusal}
 use Rattle.card.proofs.Slots.{limit-least, Built}
