@@ -1,0 +1,35 @@
+-- What the steps that build frames answer for a card in lent words: what the definitions of card/specs/Card.antt answer for the
+-- card that the words hold, and for a buffer of another length its own refusal and nothing written.
+use Prim.Native.Nat.{ℕ}
+use mathlib.Core.Path.{_≡_}
+use mathlib.Core.Bool.{cond}
+use mathlib.Core.List.{List}
+use lib.Dec.{eqb}
+use lib.ListN.{length}
+use Rattle.card.specs.declared.Card.{Card}
+use Rattle.card.specs.Card.{openTransaction, addMessage, sealFrame}
+use Rattle.card_words.specs.Words.{cardWords, cardOf, notCard}
+use Rattle.card_build.specs.declared.OpenedTransaction.{OpenedTransaction}
+use Rattle.card_build.specs.declared.SealedFrame.{SealedFrame}
+
+unfoldable pub openedIn : List ℕ → ℕ → ℕ → ℕ → OpenedTransaction
+openedIn w count address value =
+    let o = openTransaction (cardOf w) count address value in
+    cond (eqb (length w) cardWords)
+    (record { refusal = o .refusal; trans = o .trans })
+    (record { refusal = notCard; trans = record { 0 = 0 } })
+
+unfoldable pub sealedIn : List ℕ → List ℕ → SealedFrame
+sealedIn w slots =
+    let s = sealFrame (cardOf w) slots in
+    cond (eqb (length w) cardWords)
+    (record { refusal = s .refusal; number = s .number })
+    (record { refusal = notCard; number = record { 0 = 0 } })
+
+-- The slots once a message is added.
+unfoldable pub addedIn : List ℕ → List ℕ → ℕ → ℕ → List ℕ → List ℕ
+addedIn w slots t at bytes = cond (eqb (length w) cardWords) (addMessage (cardOf w) slots t at bytes .slots) slots
+
+-- The words hold the card c, where they are a card's.
+abbrev pub Becomes : List ℕ → List ℕ → Card → Type 0
+Becomes w left c = length w ≡ cardWords → cardOf left ≡ c
