@@ -18,7 +18,7 @@ use Rattle.seq.proofs.Ring.{distance-behind}
 use Rattle.host.specs.Host.{Received, unchanged, refused, receiveOf}
 use Rattle.host.proofs.Receiving.{by-number-ahead}
 use Rattle.octets.specs.Octets.{little}
-use Rattle.send_window.specs.Window.{unreleased}
+use Rattle.card.specs.Window.{unreleased}
 use Rattle.delivery.specs.Book.{
   MessageRecord,
   FrameRecord,

@@ -10,7 +10,7 @@ use mathlib.Core.List.{List, [], _∷_, _++_, map, List·Memᴰ·head}
 use lib.Dec.{lit≤, lit<}
 use lib.ListN.{length, replicate, getD}
 use Rattle.host.specs.declared.Answer.{Answer}
-use Rattle.send_window.specs.Window.{unreleased}
+use Rattle.card.specs.Window.{unreleased}
 use Rattle.delivery.specs.Book.{
   expectAccepted,
   expectAgain,
