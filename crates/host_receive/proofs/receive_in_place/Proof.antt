@@ -1,0 +1,156 @@
+-- `host_receive::receive_in_place`: the heading's refusals, then the flag, then where the number lies.
+-- Assumes nothing.
+use mathlib.Core.Path.{refl, sym, _∙_}
+use borrow.Author.Tests.{not-true, not-false}
+use Rattle.host_words.specs.Words.{pairOf}
+use Rattle.host_receive.proofs.Window.{not-new, new-in}
+use Rattle.host_receive.proofs.Awaiting.{stays, awaited, refused-heading, framed, none-there, answered-by-number}
+use borrow.Author.Needs.{needs}
+use Rattle.host_receive.proofs.receive_in_place.Statement.{statement}
+use Rattle.host_receive.proofs.receive_in_place.Tie as tie
+use Rattle.host_receive.proofs.receive_in_place.Reads as reads
+use Rattle.host_receive.proofs.receive_in_place.Lts as lts
+use Rattle.wire_layout.proofs.heading_refusal.Reads as heading-refusal-reads
+use Rattle.host_receive.proofs.answer_by_number.Reads as answer-by-number-reads
+use Rattle.host_receive.proofs.is_new.Reads as is-new-reads
+use Rattle.host_receive.proofs.refusing.Reads as refusing-reads
+use Rattle.host_receive.proofs.take_in.Reads as take-in-reads
+use Rattle.host_words.proofs.marks.Reads as marks-reads
+use Rattle.host_words.proofs.next.Reads as next-reads
+use Rattle.host_words.proofs.own.Reads as own-reads
+use Rattle.host_words.proofs.peer.Reads as peer-reads
+use Rattle.wire_read.proofs.frame_header.Reads as frame-header-reads
+use Rattle.seq.proofs.FrameNo.distance.Reads as distance-reads
+
+refusing-requires : tie.Need-refusing-requires
+refusing-requires c κs = search needs
+
+returns : tie.Need-returns
+returns c = (λ l. absurd (c .before .if1 .taken l), λ n. (refl, refl, c .refusing .ensures))
+
+own-requires : tie.Need-own-requires
+own-requires c κs = search needs
+
+peer-requires : tie.Need-peer-requires
+peer-requires c κs = search needs
+
+heading-refusal-requires : tie.Need-heading-refusal-requires
+heading-refusal-requires c κs = search needs
+
+refusing-requires-2 : tie.Need-refusing-requires-2
+refusing-requires-2 c κs = search needs
+
+same-length : tie.Need-same-length
+same-length c = search needs
+
+returns-2 : tie.Need-returns-2
+returns-2 c =
+    let a = c .before .before .before .before .before .before .before .before .before .before .before .args in
+    let e = refused-heading (pairOf (a .words .now)) (a .f .now) _ _ _ (c .before .before .before .before .before .own .ensures) (c .before .before .before .peer .ensures)
+    (c .before .before .heading-refusal .ensures) (a .memory .now) (c .before .if2 .taken) in
+    let s = stays _ _ _ _ e in
+    (λ l. (s .0, s .1, c .refusing2 .ensures ∙ s .2), λ n. absurd (n (c .before .before .before .before .before .before .before .if1 .left)))
+
+frame-header-requires : tie.Need-frame-header-requires
+frame-header-requires c κs = search needs
+
+same-length-2 : tie.Need-same-length-2
+same-length-2 c = search needs
+
+returns-3 : tie.Need-returns-3
+returns-3 c =
+    let flagged = c in
+    let headed = flagged .before .before .before in
+    let a = headed .before .before .before .before .before .before .before .before .before .before .args in
+    let p = pairOf (a .words .now) in
+    let h = framed p (a .f .now) _ _ _ (headed .before .before .before .before .own .ensures) (headed .before .before .peer .ensures)
+    (headed .before .heading-refusal .ensures) (headed .if2 .left) in
+    let s = stays _ _ _ _ (none-there p (a .f .now) (a .memory .now) h _ (c .before .before .frame-header .ensures) (c .if3 .taken)) in
+    (λ l. s, λ n. absurd (n (headed .before .before .before .before .before .before .if1 .left)))
+
+next-requires : tie.Need-next-requires
+next-requires c κs = search needs
+
+distance-requires : tie.Need-distance-requires
+distance-requires c κs = search needs
+
+marks-requires : tie.Need-marks-requires
+marks-requires c κs = search needs
+
+is-new-requires : tie.Need-is-new-requires
+is-new-requires c κs = search needs
+
+answer-by-number-requires : tie.Need-answer-by-number-requires
+answer-by-number-requires c κs = search needs
+
+same-length-3 : tie.Need-same-length-3
+same-length-3 c = search needs
+
+returns-4 : tie.Need-returns-4
+returns-4 c =
+    let flagged = c .before .before .before .before .before .before .before .before .before in
+    let headed = flagged .before .before .before in
+    let a = headed .before .before .before .before .before .before .before .before .before .before .args in
+    let p = pairOf (a .words .now) in
+    let h = framed p (a .f .now) _ _ _ (headed .before .before .before .before .own .ensures) (headed .before .before .peer .ensures)
+    (headed .before .heading-refusal .ensures) (headed .if2 .left) in
+    let away = c .before .before .before .before .before in
+    let w = awaited p (a .f .now) h _ (flagged .before .before .frame-header .ensures) (flagged .if3 .left) _
+    (rw (away .before .next .ensures) at (away .distance .ensures)) in
+    let new-is = rw (c .before .before .before .marks .ensures) at (c .before .before .is-new .ensures) in
+    let old = not-new (p .marks) _ (sym new-is ∙ not-true _ (c .before .if4 .taken)) in
+    let s = stays _ _ _ _ (answered-by-number p (a .f .now) (a .memory .now) _ _ w old) in (
+      λ l. (s .0, s .1, c .answer-by-number .ensures ∙ rw (headed .before .before .before .before .own .ensures, headed .before .before .peer .ensures) (s .2)),
+      λ n. absurd (n (headed .before .before .before .before .before .before .if1 .left)),
+    )
+
+take-in-requires : tie.Need-take-in-requires
+take-in-requires c κs = search needs
+
+same-length-4 : tie.Need-same-length-4
+same-length-4 c = search needs
+
+same-length-5 : tie.Need-same-length-5
+same-length-5 c = search needs
+
+returns-5 : tie.Need-returns-5
+returns-5 c =
+    let flagged = c .before .before .before .before .before .before .before .before .before .before .before .before .before .before .before in
+    let headed = flagged .before .before .before in
+    let a = headed .before .before .before .before .before .before .before .before .before .before .args in
+    let p = pairOf (a .words .now) in
+    let h = framed p (a .f .now) _ _ _ (headed .before .before .before .before .own .ensures) (headed .before .before .peer .ensures)
+    (headed .before .heading-refusal .ensures) (headed .if2 .left) in
+    let away = c .before .before .before .before .before .before .before .before .before .before .before in
+    let w = awaited p (a .f .now) h _ (flagged .before .before .frame-header .ensures) (flagged .if3 .left) _
+    (rw (away .before .next .ensures) at (away .distance .ensures)) in
+    let new-is = rw (c .before .before .before .before .before .before .before .before .before .marks .ensures) at (c .before .before .before .before .before .before .before .before .is-new .ensures) in
+    let new = new-in (p .marks) _ (sym new-is ∙ not-false _ (c .before .before .before .before .before .before .before .if4 .left)) in
+    (λ l. c .before .before .before .before .take-in .ensures _ w (new .0) (new .1) l, λ n. absurd (n (headed .before .before .before .before .before .before .if1 .left)))
+
+pub receive-in-place-spec : {M : Type 1} → statement M
+receive-in-place-spec =
+    tie.close
+    (tie.spec
+    refusing-requires
+    returns
+    own-requires
+    peer-requires
+    heading-refusal-requires
+    refusing-requires-2
+    same-length
+    returns-2
+    frame-header-requires
+    same-length-2
+    returns-3
+    next-requires
+    distance-requires
+    marks-requires
+    is-new-requires
+    answer-by-number-requires
+    same-length-3
+    returns-4
+    take-in-requires
+    same-length-4
+    same-length-5
+    returns-5)
