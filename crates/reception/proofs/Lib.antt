@@ -1,4 +1,0 @@
-pub mod Dues
-pub mod Passes
-pub mod Closings
-pub mod Receiving
