@@ -58,7 +58,7 @@ roomFor slot size = leb size (length slot) && leb size frameMost
 -- The first message: the frame header and the message, from the slot's start on.
 unfoldable pub firstMessage : List ℕ → ℕ → ℕ → ℕ → Message → List ℕ
 firstMessage slot to from num m =
-    cond (roomFor slot (endOf 10 m)) 
+    cond (roomFor slot (endOf 10 m))
     (sets slot 0 (frameHead to from num 0 0 (flagsFor (m ∷ [])) ++ (messageHead m 0 ++ m .bytes)))
     slot
 

@@ -1,0 +1,46 @@
+-- What the library's functions answer and leave, said by the very ends that the theorem of delivery is about: each line is a field of
+-- `specifiedHost` or `specifiedCard`, on the pair or the card that the lent words hold.
+use Prim.Native.Nat.{ℕ}
+use mathlib.Core.List.{List, []}
+use Rattle.host.specs.declared.Answer.{Answer}
+use Rattle.host.specs.declared.Opened.{Opened}
+use Rattle.host.specs.declared.Acknowledgement.{Acknowledgement}
+use Rattle.host.specs.Host.{Received}
+use Rattle.host_words.specs.Words.{pairOf}
+use Rattle.card_words.specs.Words.{cardOf}
+use Rattle.delivery.specs.System.{CardResult, specifiedCard, specifiedHost}
+
+-- ---- the host
+
+abbrev pub hostOpened : ℕ → ℕ → Opened
+hostOpened own peer = specifiedHost .hostOpening own peer
+
+abbrev pub received : List ℕ → List ℕ → List ℕ → Received
+received words frame memory = specifiedHost .receiving (pairOf words) frame memory
+
+abbrev pub acknowledged : List ℕ → Answer → ℕ → Acknowledgement
+acknowledged words answer number = specifiedHost .acknowledging (pairOf words) answer number
+
+-- ---- the card
+
+abbrev pub cardOpened : ℕ → ℕ → ℕ → List ℕ → CardResult
+cardOpened own peer limit slots = specifiedCard .cardOpening own peer limit slots
+
+-- Opening a transaction and reading acknowledgements have nothing to do with the slots.
+abbrev pub transactionOpened : List ℕ → ℕ → ℕ → ℕ → CardResult
+transactionOpened words count address value = specifiedCard .opening (cardOf words) [] count address value
+
+abbrev pub messageAdded : List ℕ → List ℕ → ℕ → ℕ → List ℕ → CardResult
+messageAdded words slots trans address bytes = specifiedCard .adding (cardOf words) slots trans address bytes
+
+abbrev pub frameSealed : List ℕ → List ℕ → CardResult
+frameSealed words slots = specifiedCard .sealing (cardOf words) slots
+
+abbrev pub acksRead : List ℕ → List ℕ → CardResult
+acksRead words frame = specifiedCard .reading (cardOf words) [] frame
+
+abbrev pub frameShown : List ℕ → List ℕ → ℕ → CardResult
+frameShown words slots number = specifiedCard .showing (cardOf words) slots number
+
+abbrev pub nextChosen : List ℕ → List ℕ → List ℕ → CardResult
+nextChosen words slots ack = specifiedCard .choosing (cardOf words) slots ack
