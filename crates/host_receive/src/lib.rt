@@ -3,14 +3,16 @@
 // host/specs/Host.antt, receiveOf, says of the pair that the words hold (specs/Receiving.antt).
 use bitmap::word64;
 use host::Answer;
+use host::Pair;
 use host::Refusal;
+use host::Stepped;
 use host::Sums;
 use host_words::Head;
 use seq::FrameNo;
 use seq::TransNo;
 ghost use mathlib.Core.Path.{_≡_};
 ghost use Rattle.host.specs.declared.Answer.the-variants.{Again};
-ghost use Rattle.host.specs.Host.{refused};
+ghost use Rattle.host.specs.Host.{refused, receiveOf, steppedOf};
 ghost use Rattle.host_receive.specs.Receiving.{
   Receives,
   isNew,
@@ -145,4 +147,18 @@ pub fn receive_in_place(words: &mut [u64], f: &[u8], memory: &mut [u8]) -> Answe
         return answer_by_number(own, peer, f, number, d);
     }
     take_in(words, f, memory, number)
+}
+
+// Receives a frame by value: the pair is packed into words, received in place, and unpacked.
+pub fn receive(pair: Pair, f: &[u8], memory: &mut [u8]) -> Stepped
+    ensures { λ r. ⌜ r ≡ steppedOf (receiveOf pair (now (f .entry)) (now (memory .entry))) ⌝ }
+    ensures { λ _. ⌜ now (memory .exit) ≡ receiveOf pair (now (f .entry)) (now (memory .entry)) .memory ⌝ }
+{
+    let mut words = [0u64; 67];
+    host_words::pack(&mut words, pair);
+    let answer = receive_in_place(&mut words, f, memory);
+    Stepped {
+        pair: host_words::unpack(&words),
+        answer,
+    }
 }
