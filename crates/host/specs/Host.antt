@@ -161,11 +161,14 @@ rangeOf (Refused r) = record { start = record { 0 = 0 }; count = 0 }
 
 -- An acknowledgement is due where the range is not empty; it goes from the pair's own ID to the peer's and carries the number
 -- that the caller gives.
-unfoldable pub acknowledgementOf : Pair → Answer → ℕ → Acknowledgement
-acknowledgementOf p a num = record {
+unfoldable pub acknowledgementFrom : ℕ → ℕ → Answer → ℕ → Acknowledgement
+acknowledgementFrom own peer a num = record {
   due = ltb 0 (rangeOf a .count);
-  frame = ackFrame (p .peer) (p .own) num (rangeOf a .start .0) (rangeOf a .count);
+  frame = ackFrame peer own num (rangeOf a .start .0) (rangeOf a .count);
 }
+
+abbrev pub acknowledgementOf : Pair → Answer → ℕ → Acknowledgement
+acknowledgementOf p a num = acknowledgementFrom (p .own) (p .peer) a num
 
 -- ---- answers as numbers
 

@@ -9,7 +9,7 @@ use host::Refusal;
 use seq::FrameNo;
 use seq::TransNo;
 ghost use mathlib.Core.Path.{_≡_};
-ghost use Rattle.host.specs.Host.{fresh, refusedOpening, openedOf, rangeOf, acknowledgementOf};
+ghost use Rattle.host.specs.Host.{fresh, refusedOpening, openedOf, rangeOf, acknowledgementFrom, acknowledgementOf};
 
 const NO_RANGE: Range = Range {
     start: FrameNo(0),
@@ -74,14 +74,21 @@ fn range_of(answer: Answer) -> Range
     }
 }
 
-// The acknowledgement that an answer calls for, from an end whose next message frame will have this number.
-pub fn acknowledge(pair: Pair, answer: Answer, number: FrameNo) -> Acknowledgement
-    ensures { λ r. ⌜ r ≡ acknowledgementOf pair answer (number .0) ⌝ }
+// The acknowledgement that an answer calls for, from an end with these IDs whose next message frame will have this number.
+pub fn acknowledge_from(own: u16, peer: u16, answer: Answer, number: FrameNo) -> Acknowledgement
+    ensures { λ r. ⌜ r ≡ acknowledgementFrom own peer answer (number .0) ⌝ }
 {
     let range = range_of(answer);
     let start = range.start;
     Acknowledgement {
         due: 0 < range.count,
-        frame: wire_headers::ack_frame(pair.peer, pair.own, number, start, range.count),
+        frame: wire_headers::ack_frame(peer, own, number, start, range.count),
     }
+}
+
+// The same from a pair's own end.
+pub fn acknowledge(pair: Pair, answer: Answer, number: FrameNo) -> Acknowledgement
+    ensures { λ r. ⌜ r ≡ acknowledgementOf pair answer (number .0) ⌝ }
+{
+    acknowledge_from(pair.own, pair.peer, answer, number)
 }

@@ -1,0 +1,99 @@
+// Answers as words that C reads, and the acknowledgement that an answer calls for, with the pair in lent words. Assumes nothing: any
+// words have an answer. It promises host/specs/Host.antt, answerWords and acknowledgementOf.
+use host::Acknowledgement;
+use host::Answer;
+use seq::FrameNo;
+ghost use mathlib.Core.Path.{_≡_};
+ghost use mathlib.Core.List.{[], _∷_};
+ghost use Rattle.host.specs.Host.{answerWords, acknowledgementOf};
+ghost use Rattle.host_words.specs.Words.{pairOf};
+
+// An answer's seven words.
+struct Line {
+    kind: u64,
+    number: u64,
+    messages: u64,
+    bytes: u64,
+    completed: u64,
+    refusal: u64,
+    place: u64,
+}
+
+const NOTHING: Line = Line {
+    kind: 3,
+    number: 0,
+    messages: 0,
+    bytes: 0,
+    completed: 0,
+    refusal: 0,
+    place: 0,
+};
+
+fn put_line(out: &mut [u64; 7], l: Line)
+    ensures { λ _. ⌜ now (out .exit) ≡ l .kind ∷ l .number ∷ l .messages ∷ l .bytes ∷ l .completed ∷ l .refusal ∷ l .place ∷ [] ⌝ }
+{
+    out[0] = l.kind;
+    out[1] = l.number;
+    out[2] = l.messages;
+    out[3] = l.bytes;
+    out[4] = l.completed;
+    out[5] = l.refusal;
+    out[6] = l.place;
+}
+
+// Writes the answer's words.
+pub fn put_answer(out: &mut [u64; 7], answer: Answer)
+    ensures { λ _. ⌜ now (out .exit) ≡ answerWords answer ⌝ }
+{
+    match answer {
+        Answer::Accepted(n, sums) => put_line(
+            out,
+            Line {
+                kind: 1,
+                number: n.0 as u64,
+                messages: sums.messages as u64,
+                bytes: sums.bytes as u64,
+                completed: sums.completed as u64,
+                refusal: 0,
+                place: 0,
+            },
+        ),
+        Answer::Again(n) => put_line(
+            out,
+            Line {
+                kind: 2,
+                number: n.0 as u64,
+                messages: 0,
+                bytes: 0,
+                completed: 0,
+                refusal: 0,
+                place: 0,
+            },
+        ),
+        Answer::NoMessages => put_line(out, NOTHING),
+        Answer::Refused(r) => put_line(
+            out,
+            Line {
+                kind: 4,
+                number: 0,
+                messages: 0,
+                bytes: 0,
+                completed: 0,
+                refusal: r.number as u64,
+                place: r.place as u64,
+            },
+        ),
+    }
+}
+
+// The acknowledgement that an answer calls for, from the pair that the words hold.
+pub fn acknowledge_in_place(words: &[u64], answer: Answer, number: FrameNo) -> Acknowledgement
+    ensures { λ r. ⌜ r ≡ acknowledgementOf (pairOf (now (words .entry))) answer (number .0) ⌝ }
+{
+    host_pair::acknowledge_from(
+        host_words::own(words),
+        host_words::peer(words),
+        answer,
+        number,
+    )
+}
