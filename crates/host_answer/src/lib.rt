@@ -32,13 +32,15 @@ const NOTHING: Line = Line {
 fn put_line(out: &mut [u64; 7], l: Line)
     ensures { λ _. ⌜ now (out .exit) ≡ l .kind ∷ l .number ∷ l .messages ∷ l .bytes ∷ l .completed ∷ l .refusal ∷ l .place ∷ [] ⌝ }
 {
-    out[0] = l.kind;
-    out[1] = l.number;
-    out[2] = l.messages;
-    out[3] = l.bytes;
-    out[4] = l.completed;
-    out[5] = l.refusal;
-    out[6] = l.place;
+    *out = [
+        l.kind,
+        l.number,
+        l.messages,
+        l.bytes,
+        l.completed,
+        l.refusal,
+        l.place,
+    ];
 }
 
 // Writes the answer's words.
