@@ -95,7 +95,7 @@ leading-same p q n e =
 
 -- ---- marks as bits
 
-bit-two : (x : ℕ) → (x % 2 ≡ 0) ⊎ (x % 2 ≡ 1)
+pub bit-two : (x : ℕ) → (x % 2 ≡ 0) ⊎ (x % 2 ≡ 1)
 bit-two x = go (x % 2) (omega arith)
   where
     go : (r : ℕ) → r < 2 → (r ≡ 0) ⊎ (r ≡ 1)

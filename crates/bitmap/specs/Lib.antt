@@ -1,2 +1,3 @@
 pub mod Marks
+pub mod Masks
 pub mod Window

@@ -2,6 +2,7 @@
 ghost use mathlib.Core.Path.{_≡_};
 ghost use Prim.Native.Nat.{_/_, _^_};
 ghost use Rattle.bitmap.specs.Marks.{mark, withMark, trailingOnes};
+ghost use Rattle.bitmap.specs.Masks.{marksBelow, marksBetween};
 
 pub fn is_marked(m: u64, i: u32) -> bool
     ensures { λ r. ⌜ r ≡ mark m i ⌝ }
@@ -36,4 +37,21 @@ pub fn trailing_ones(m: u64) -> u32
     ensures { λ r. ⌜ r ≡ trailingOnes 64 m ⌝ }
 {
     u64::trailing_zeros(!m)
+}
+
+// The word of all marks below end.
+pub fn below(end: u32) -> u64
+    ensures { λ r. ⌜ r ≡ marksBelow 64 end ⌝ }
+{
+    if end >= 64 {
+        return 18446744073709551615;
+    }
+    (1 << end) - 1
+}
+
+// The word of the marks from start on that are below end.
+pub fn between(start: u32, end: u32) -> u64
+    ensures { λ r. ⌜ r ≡ marksBetween 64 start end ⌝ }
+{
+    below(end) & !below(start)
 }

@@ -1,12 +1,10 @@
 -- What the steps that build frames answer for a card in lent words: what the definitions of card/specs/Card.antt answer for the
 -- card that the words hold, and for a buffer of another length its own refusal and nothing written.
 use Prim.Native.Nat.{ℕ}
-use mathlib.Core.Path.{_≡_}
 use mathlib.Core.Bool.{cond}
 use mathlib.Core.List.{List}
 use lib.Dec.{eqb}
 use lib.ListN.{length}
-use Rattle.card.specs.declared.Card.{Card}
 use Rattle.card.specs.Card.{openTransaction, addMessage, sealFrame}
 use Rattle.card_words.specs.Words.{cardWords, cardOf, notCard}
 use Rattle.card_build.specs.declared.OpenedTransaction.{OpenedTransaction}
@@ -29,7 +27,3 @@ sealedIn w slots =
 -- The slots once a message is added.
 unfoldable pub addedIn : List ℕ → List ℕ → ℕ → ℕ → List ℕ → List ℕ
 addedIn w slots t at bytes = cond (eqb (length w) cardWords) (addMessage (cardOf w) slots t at bytes .slots) slots
-
--- The words hold the card c, where they are a card's.
-abbrev pub Becomes : List ℕ → List ℕ → Card → Type 0
-Becomes w left c = length w ≡ cardWords → cardOf left ≡ c

@@ -27,8 +27,8 @@ ghost use Rattle.card.specs.Card.{
   sealRefusal,
   sealFrame,
 };
-ghost use Rattle.card_words.specs.Words.{cardOf, Steps, orNotCard};
-ghost use Rattle.card_build.specs.Building.{openedIn, sealedIn, addedIn, Becomes};
+ghost use Rattle.card_words.specs.Words.{cardOf, Becomes, Steps, orNotCard};
+ghost use Rattle.card_build.specs.Building.{openedIn, sealedIn, addedIn};
 
 // The number of a transaction just opened; 0 where that is refused. Refusal 0 is none.
 pub struct OpenedTransaction {

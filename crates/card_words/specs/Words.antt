@@ -129,13 +129,17 @@ withSending c t e = record {
 
 -- ---- what a step leaves
 
--- The words hold the card c then. A buffer of another length than a card's is left as it was.
+-- The words hold the card c then, where they are a card's.
+abbrev pub Becomes : List ℕ → List ℕ → Card → Type 0
+Becomes w left c = length w ≡ cardWords → cardOf left ≡ c
+
+-- And a buffer of another length is left as it was.
 abbrev pub Leaves : List ℕ → List ℕ → Card → Type 0
-Leaves w left c = (length w ≡ cardWords → cardOf left ≡ c) × (length w ≢ cardWords → left ≡ w)
+Leaves w left c = Becomes w left c × (length w ≢ cardWords → left ≡ w)
 
 -- The same of a step that may be refused: no word changes where it is.
 abbrev pub Steps : List ℕ → List ℕ → ℕ → Card → Type 0
-Steps w left refusal c = (length w ≡ cardWords → cardOf left ≡ c) × (refusal ≢ 0 → left ≡ w)
+Steps w left refusal c = Becomes w left c × (refusal ≢ 0 → left ≡ w)
 
 -- A buffer of another length is refused by a number that the rules don't have.
 abbrev pub notCard : ℕ

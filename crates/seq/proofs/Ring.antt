@@ -7,9 +7,9 @@ use native.Mathlib.Nat.{add-mul-mod-self-right, div-add-mod', add-comm, not-suc-
 use native.Mathlib.Decide.{decLe, decLt}
 use native.Mathlib.Omega.{arith}
 use mathlib.Core.Path.{_≡_, refl, sym, ap, _∙_}
-use mathlib.Core.Bool.{Bool, true, false, cond}
-use borrow.Author.Tests.{eqb-true, eqb-false, lt-ltb, ltb-true}
-use lib.Dec.{eqb}
+use mathlib.Core.Bool.{Bool, true, false, cond, _&&_, _||_}
+use borrow.Author.Tests.{eqb-true, eqb-false, lt-ltb, le-ltb, le-leb, lt-leb, ltb-true}
+use lib.Dec.{eqb, leb, ltb}
 use Rattle.seq.specs.Ring.{frameSpace, distance, advance, inRange, latest}
 
 -- Where numbers come round, by computation: nine frame numbers from 65530 on end with the number 2.
@@ -100,6 +100,48 @@ module _ (w : ℕ) (pos : 0 < w) where
   pub range-in : (start count n : ℕ) → start < w → n < w → inRange w start count n ≡ true
       → (distance w start n < count) × (n ≡ advance w start (distance w start n))
   range-in start count n l h e = (ltb-true _ _ e, sym (advance-distance start n l h))
+
+  -- The i-th number from `base` on is in a range that starts d past `base`: it lies in the run of `count` from d on, or in what of
+  -- that run comes round to `base`.
+  pub range-from : (base start count i : ℕ) → base < w → start < w → count ≤ w → i < w
+      → inRange w start count (advance w base i)
+      ≡ ((leb (distance w base start) i && ltb i (distance w base start + count)) || ltb (i + w) (distance w base start + count))
+  unfolding advance
+  range-from base start count i b s c h = go (decLe d i)
+    where
+      d : ℕ
+      d = distance w base start
+
+      d-low : d < w
+      d-low = distance-lt base start
+
+      start-is : start ≡ (base + d) % w
+      start-is = sym (advance-distance base start b s)
+
+      -- how far the number lies past the start
+      away : (m k : ℕ) → base + i + m * w ≡ base + d + k → k < w → distance w start ((base + i) % w) ≡ k
+      away m k e l = ap (λ (n : ℕ). distance w n ((base + i) % w)) start-is ∙ distance-is (base + d) (base + i) m k e l
+
+      test : (a n : ℕ) → ltb a count ≡ ltb (a + n) (n + count)
+      test a n = which (decLt a count)
+        where
+          which : Dec (a < count) → ltb a count ≡ ltb (a + n) (n + count)
+          which (yes l) = rw (lt-ltb a count l, lt-ltb (a + n) (n + count) (omega arith))
+          which (no l) = rw (le-ltb a count (omega arith), le-ltb (a + n) (n + count) (omega arith))
+
+      or-false : (x : Bool) → x ≡ (x || false)
+      or-false true = refl
+      or-false false = refl
+
+      go : Dec (d ≤ i) → ltb (distance w start ((base + i) % w)) count ≡ ((leb d i && ltb i (d + count)) || ltb (i + w) (d + count))
+      go (yes l) =
+          let e : i - d + d ≡ i = omega arith in
+          rw (away 0 (i - d) (omega arith) (omega arith), le-leb d i l, le-ltb (i + w) (d + count) (omega arith))
+          (test (i - d) d ∙ ap (λ (n : ℕ). ltb n (d + count)) e ∙ or-false (ltb i (d + count)))
+      go (no l) =
+          let e : w - (d - i) + d ≡ i + w = omega (arith, d-low) in
+          rw (away 1 (w - (d - i)) (omega (arith, d-low)) (omega arith), lt-leb d i (omega arith))
+          (test (w - (d - i)) d ∙ ap (λ (n : ℕ). ltb n (d + count)) e)
 
   -- ---- how the two sides read a number
 
