@@ -3,11 +3,11 @@
 -- Assumes nothing.
 use mathlib.Core.Path.{_≡_, refl, sym, ap, _∙_}
 use mathlib.Core.Logic.{_≢_}
-use mathlib.Core.Bool.{Bool, true, false, not, _&&_}
+use mathlib.Core.Bool.{Bool, true, false, _&&_}
 use mathlib.Core.List.{List}
 use Prim.Native.Nat.{ℕ, _+_, _≤_, _<_}
 use native.Mathlib.Numerals.{add-one}
-use borrow.Author.Tests.{lt-ltb, le-ltb, le-leb, lt-leb, eq-eqb, ne-eqb, not-true, not-false}
+use borrow.Author.Tests.{lt-ltb, le-ltb, le-leb, lt-leb, eq-eqb, ne-eqb}
 use lib.Dec.{eqb, ltb, leb}
 use lib.ListN.{length}
 use Rattle.seq.specs.Ring.{frameSpace, transSpace, distance, advance}
@@ -19,7 +19,6 @@ use Rattle.card.specs.declared.Card.{Card}
 use Rattle.card.specs.Window.{unreleased, sealing}
 use Rattle.card.specs.Sendings.{opened, sendingAt, openingRefusal, opening, takes, adding}
 use Rattle.card.specs.Card.{
-  fits,
   openTransaction,
   headerOffset,
   addRefusal,
@@ -33,6 +32,7 @@ use Rattle.card.specs.Card.{
 use Rattle.card.proofs.Adding.{takes-room}
 use Rattle.card_words.specs.declared.Head.{Head}
 use Rattle.card_words.specs.Words.{cardOf, headOf, withHead, withSize, withSending}
+use Rattle.card_words.proofs.Heads.{unreleased-read}
 
 -- ---- what the answers of refused and accepted steps are
 
@@ -56,16 +56,9 @@ sealing-refused c slots r is ne = rw (← is, ne-eqb r 0 ne)
 -- ---- what the head tells
 
 module _ (w : List ℕ) (h : Head) (head-is : h ≡ headOf (cardOf w)) where
-  module _ (slots : List ℕ) (b : Bool) (is : b ≡ fits (h .limit) slots) where
-    pub unfit : not b ≡ true → fits (cardOf w .limit) slots ≡ false
-    unfit n = sym (rw (head-is, not-true b n) at is)
-
-    pub fit : not b ≡ false → fits (cardOf w .limit) slots ≡ true
-    fit n = sym (rw (head-is, not-false b n) at is)
-
   module _ (d : ℕ) (is : d ≡ distance frameSpace (h .base .0) (h .next .0)) where
     many : d ≡ unreleased (cardOf w .window)
-    many = rw head-is at is
+    many = unreleased-read w h head-is d is
 
     pub slots-taken : 64 ≤ d → leb 64 (unreleased (cardOf w .window)) ≡ true
     slots-taken l = rw (← many) (le-leb 64 d l)

@@ -4,7 +4,8 @@ use mathlib.Core.Path.{sym, _∙_}
 use borrow.Author.Tests.{not-true, not-false}
 use lib.ListN.{length}
 use Rattle.card.specs.Card.{addRefusal}
-use Rattle.card_build.proofs.InPlace.{unfit, fit, bare-is, slots-taken, slot-free, ends-at}
+use Rattle.card_words.proofs.Heads.{unfit, fit}
+use Rattle.card_build.proofs.InPlace.{bare-is, slots-taken, slot-free, ends-at}
 use borrow.Author.Needs.{needs}
 use Rattle.card_build.proofs.add_refusal.Statement.{statement}
 use Rattle.card_build.proofs.add_refusal.Tie as tie

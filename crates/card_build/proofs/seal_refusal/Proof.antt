@@ -1,7 +1,8 @@
 -- `seal_refusal`: 26 before 24.
 -- Assumes nothing.
 use Rattle.card.specs.Card.{sealRefusal}
-use Rattle.card_build.proofs.InPlace.{unfit, fit, nothing-built, something-built}
+use Rattle.card_words.proofs.Heads.{unfit, fit}
+use Rattle.card_build.proofs.InPlace.{nothing-built, something-built}
 use borrow.Author.Needs.{needs}
 use Rattle.card_build.proofs.seal_refusal.Statement.{statement}
 use Rattle.card_build.proofs.seal_refusal.Tie as tie
