@@ -1,9 +1,8 @@
--- Wrong ends: hosts and cards with one fault each, and the buyer's older host. Nothing of this needs to be believed:
--- proofs/Wrong/Excluded.antt and proofs/Wrong/Older.antt show that none of them meets demand 3, but for the card that
--- adds nothing.
+-- Wrong ends: hosts and cards with one fault each, among them the buyer's older host. Nothing of this needs to be
+-- believed: the files of proofs/Wrong show that none of them meets demand 3, but for the card that adds nothing.
 use Prim.Native.Nat.{ℕ, suc, _%_}
 use mathlib.Core.Bool.{Bool, cond, _&&_}
-use mathlib.Core.List.{List, []}
+use mathlib.Core.List.{List, [], _∷_}
 use lib.Dec.{eqb, leb, ltb}
 use lib.ListN.{getD, take, drop}
 use lib.Seq.{sets}
@@ -11,7 +10,7 @@ use Rattle.seq.specs.Ring.{distance, frameSpace, transSpace}
 use Rattle.bitmap.specs.Marks.{mark}
 use Rattle.octets.specs.Octets.{field, little}
 use Rattle.wire.specs.Format.{Message}
-use Rattle.wire.specs.Reading.{number, flags, addressed, Read, bad, good, readFrame}
+use Rattle.wire.specs.Reading.{number, flags, ackStart, addressed, Read, bad, good, readFrame}
 use Rattle.wire.specs.Writing.{ackFrame}
 use Rattle.host.specs.Terms.{free}
 use Rattle.host.specs.declared.Pair.{Pair}
@@ -37,6 +36,7 @@ use Rattle.delivery.specs.System.{
   specifiedCard,
   specifiedHost,
 }
+use Rattle.delivery.specs.Demand3.{saysAccepted}
 
 -- ---- the rules' ends but for some steps
 
@@ -248,13 +248,13 @@ opensLarger c s count address value = specifiedCard .opening c s (suc count) add
 abbrev pub addsNothing : Implementation
 addsNothing = withAdding (λ c slots t at bytes. handedOver 23 c slots [])
 
--- ---- the older host
+-- ---- wrapped numbers compared by plain less-than
 
--- Frame numbers as they stand, not by their distance on the ring.
+-- Numbers as they stand, not by their distance on the ring.
 unfoldable pub plainlyBehind : ℕ → ℕ → Bool
 plainlyBehind num next = ltb num next
 
--- As the rules say (`byNumber`), but for the test whether a frame is behind.
+-- The older host: as the rules say (`byNumber`), but for the test whether a frame is behind.
 unfoldable pub numberedPlainly : Pair → List ℕ → ℕ → List Message → Received
 numberedPlainly p memory num ms =
     let d = distance frameSpace (p .next .0) num in
@@ -274,3 +274,23 @@ comparesPlainly p f memory = answeredPlainly p f memory (readFrame (addressed (p
 
 abbrev pub older : Implementation
 older = withHost comparesPlainly
+
+-- A host that refuses with 7 a frame that the rules accept, where the number of its first message's transaction is
+-- below that of the lowest one not complete.
+abbrev pub firstTransaction : Read → ℕ
+firstTransaction (bad r) = 0
+firstTransaction (good []) = 0
+firstTransaction (good (m ∷ ms)) = m .trans
+
+unfoldable pub transactionsPlainly : Receiving
+transactionsPlainly p f memory =
+    let t = firstTransaction (readFrame (addressed (p .own) (p .peer) f) f) in
+    let r = receiveOf p f memory in
+    cond (saysAccepted (r .answer) && plainlyBehind t (p .lowest .0)) (unchanged p memory (refused 7 0)) r
+
+-- A card that takes an acknowledgement for an old one where its first number is below that of the oldest frame not
+-- released.
+unfoldable pub readsPlainly : Card → List ℕ → List ℕ → CardResult
+readsPlainly c s f =
+    cond (plainlyBehind (ackStart f) (c .window .base .0))
+    (handedOver (specifiedCard .reading c s f .refusal) c s []) (specifiedCard .reading c s f)

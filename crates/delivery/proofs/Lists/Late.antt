@@ -87,7 +87,7 @@ use Rattle.delivery.specs.Demand3.{
   Demand3For,
 }
 use Rattle.delivery.proofs.Lists.Check.{slots₀}
-use Rattle.delivery.proofs.Book.Along.{last, last-is, last-plain}
+use Rattle.delivery.proofs.Book.Along.{still-at, last, last-is, last-plain}
 use Rattle.delivery.proofs.Book.Writes.{perform-append}
 use Rattle.delivery.proofs.Demand.{demand3}
 use Rattle.delivery.proofs.Lists.Entered.{reading-entered}
@@ -150,22 +150,18 @@ record Premises (events : List Event) : Type 0 where
 
 -- ---- after n rounds
 
-head-stays : {A : Type 0} (xs ys : List A) (x : A) → getElem? xs 0 ≡ some x → getElem? (xs ++ ys) 0 ≡ some x
-head-stays [] ys x q = absurd (let z : _≡_ {A = ℕ} 0 1 = cc in omega arith)
-head-stays (y ∷ xs) ys x q = q
-
 first-copy : (n : ℕ) → 0 < n → getElem? (roundCopies n) 0 ≡ some (frameCopy 0)
 unfolding roundCopies
 first-copy zero h = absurd (omega arith)
 first-copy (suc zero) h = refl
 first-copy (suc (suc n)) h =
-    head-stays (roundCopies (suc n)) (frameCopy (suc n) ∷ []) (frameCopy 0) (first-copy (suc n) (omega arith))
+    still-at (roundCopies (suc n)) (frameCopy (suc n) ∷ []) 0 (frameCopy 0) (first-copy (suc n) (omega arith))
 
 first-ack : (n : ℕ) → 0 < n → getElem? (roundAcks n) 0 ≡ some (oneFrame 0)
 unfolding roundAcks
 first-ack zero h = absurd (omega arith)
 first-ack (suc zero) h = refl
-first-ack (suc (suc n)) h = head-stays (roundAcks (suc n)) (oneFrame (suc n) ∷ []) (oneFrame 0)
+first-ack (suc (suc n)) h = still-at (roundAcks (suc n)) (oneFrame (suc n) ∷ []) 0 (oneFrame 0)
     (first-ack (suc n) (omega arith))
 
 -- a frame that is through, marked again

@@ -548,7 +548,7 @@ module _ (ends : Implementation) (turns : InTurn ends) (timely : Bool) (End : Sy
         subst TermsFit (sym (closed-at n 0 n one (omega arith)))
         (record { count-fits = lit< tt; address-fits = lit< tt; value-fits = lit< tt })
 
-    none-else : unfinished (page n [] [] [] hs ds ys) ≡ []
+    pub none-else : unfinished (page n [] [] [] hs ds ys) ≡ []
     unfolding unfinishedFrom
     none-else = unfinished-is n [] [] [] hs ds ys refl
 

@@ -126,7 +126,7 @@ Wrong w b = Guarantees (outcomeOf w) b → ⊥
 
 -- ---- how the older host answers
 
-not-behind : (n : ℕ) → plainlyBehind n n ≡ false
+pub not-behind : (n : ℕ) → plainlyBehind n n ≡ false
 unfolding plainlyBehind
 not-behind n = go (plainlyBehind n n) refl
   where
