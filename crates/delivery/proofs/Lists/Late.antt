@@ -101,9 +101,9 @@ use Rattle.delivery.proofs.Lists.Rounds.{
   past-leads,
   past-where,
   bare,
-  closed,
-  closed-bare,
-  memory,
+  spent,
+  spent-bare,
+  roundMemory,
   page,
   TermsFit,
   message-fits,
@@ -137,15 +137,15 @@ lateAck : ℕ → List Event
 lateAck n = rounds n 0 (reads 0 ∷ [])
 
 abbrev ran : List Event → RunResult
-ran events = run specified (initial specified 2 1 64 slots₀ memory) events
+ran events = run specified (initial specified 2 1 64 slots₀ roundMemory) events
 
 abbrev bookAfter : List Event → Book
-bookAfter events = bookOf memory (ran events .observations)
+bookAfter events = bookOf roundMemory (ran events .observations)
 
 -- The premises of demand 3 on a list, for a card 2 and a host 1.
 record Premises (events : List Event) : Type 0 where
   typedAll : allTyped events ≡ true
-  inTimeAll : notTooLate (emptyBook memory) (ran events .observations) ≡ true
+  inTimeAll : notTooLate (emptyBook roundMemory) (ran events .observations) ≡ true
   writes : WritesAllowed (bookAfter events)
 
 -- ---- after n rounds
@@ -196,30 +196,30 @@ unfolding dataWrites perform
 no-data m [] h = refl
 no-data m (e ∷ es) h = rw (h .0) (no-data m es (h .1))
 
-zeros : (x : Bool) → perform memory (cond x (completionWrite bare ∷ []) []) ≡ memory
-unfolding perform completionWrite little memory
+zeros : (x : Bool) → perform roundMemory (cond x (completionWrite bare ∷ []) []) ≡ roundMemory
+unfolding perform completionWrite little roundMemory
 zeros true = refl
 zeros false = refl
 
 unwritten-from : (m j : ℕ) (es : List MessageRecord) → ((e : MessageRecord) → List·Memᴰ e es → e .bytes ≡ [])
-    → perform memory (bookWrites j (closed m []) es) ≡ memory
-unfolding closed bookWrites writesOf perform
+    → perform roundMemory (bookWrites j (spent m []) es) ≡ roundMemory
+unfolding spent bookWrites writesOf perform
 unwritten-from zero j es h = refl
 unwritten-from (suc m) j es h =
-    perform-append memory (writesOf bare j es) (bookWrites (suc j) (closed m []) es)
-    ∙ ap (λ (x : List ℕ). perform x (bookWrites (suc j) (closed m []) es)) one
+    perform-append roundMemory (writesOf bare j es) (bookWrites (suc j) (spent m []) es)
+    ∙ ap (λ (x : List ℕ). perform x (bookWrites (suc j) (spent m []) es)) one
     ∙ unwritten-from m (suc j) es h
   where
-    one : perform memory (writesOf bare j es) ≡ memory
+    one : perform roundMemory (writesOf bare j es) ≡ roundMemory
     one =
-        perform-append memory (dataWrites (ofTransaction j es))
+        perform-append roundMemory (dataWrites (ofTransaction j es))
         (cond (allMessagesIn bare j es) (completionWrite bare ∷ []) [])
         ∙ ap (λ (x : List ℕ). perform x (cond (allMessagesIn bare j es) (completionWrite bare ∷ []) []))
-        (no-data memory (ofTransaction j es) (no-bytes j es h))
+        (no-data roundMemory (ofTransaction j es) (no-bytes j es h))
         ∙ zeros (allMessagesIn bare j es)
 
 module _ (n : ℕ) (hs : List HandOut) (ds : List AckRange) (ys : List Expected) where
-  page-memory : bookMemory (page n [] [] [] hs ds ys) ≡ memory
+  page-memory : bookMemory (page n [] [] [] hs ds ys) ≡ roundMemory
   unfolding bookMemory
   page-memory = unwritten-from n 0 (through n) (through-empty 0 n)
 
@@ -255,8 +255,8 @@ module _ (n : ℕ) (some-round : 0 < n) (ys : List Expected) where
     copied = first-copy n some-round;
     holds = ap (λ (x : FrameRecord). x .messages) first-through;
     fits =
-        message-fits (closed n []) 0
-        (subst TermsFit (sym (closed-bare n 0 [] some-round))
+        message-fits (spent n []) 0
+        (subst TermsFit (sym (spent-bare n 0 [] some-round))
         (record { count-fits = lit< tt; address-fits = lit< tt; value-fits = lit< tt }));
   }
 
@@ -291,12 +291,12 @@ record CopyAgain (n : ℕ) : Type 0 where
   premises : Premises (lateCopy n)
   again : last expectNoEffect (map seenAs (ran (lateCopy n) .system .answers)) ≡ expectAgain 0
   counted : messagesSum (ran (lateCopy n) .system .answers) ≡ n
-  unwritten : ran (lateCopy n) .system .memory ≡ memory
+  unwritten : ran (lateCopy n) .system .memory ≡ roundMemory
 
 guaranteed : (events : List Event) → Premises events → Guarantees (outcomeOf (ran events .system)) (bookAfter events)
 unfolding Demand3For
 guaranteed events p =
-    demand3 2 1 64 slots₀ memory events (specified-in-turn .opensBoth)
+    demand3 2 1 64 slots₀ roundMemory events (specified-in-turn .opensBoth)
     (p .typedAll) (p .inTimeAll) (p .writes)
 
 copy-in-time : (n : ℕ) → 0 < n → n ≤ 32768 → CopyAgain n
@@ -304,8 +304,8 @@ unfolding lateCopy numberedAs
 copy-in-time n h few = go (whole specified specified-in-turn true (AgainLast n) n (receives 0 ∷ [])
     (copy-leads n h few))
   where
-    go : Leads specified specified-in-turn true (AgainLast n) (lateCopy n) (initial specified 2 1 64 slots₀ memory)
-        (emptyBook memory)
+    go : Leads specified specified-in-turn true (AgainLast n) (lateCopy n) (initial specified 2 1 64 slots₀ roundMemory)
+        (emptyBook roundMemory)
         → CopyAgain n
     go l =
         let p : Premises (lateCopy n) =
@@ -334,7 +334,7 @@ copy-at-limit = copy-in-time 32768 (lit< tt) (lit≤ tt)
 -- ---- a copy too late
 
 record CopyRefused (n : ℕ) : Type 0 where
-  premiseFails : notTooLate (emptyBook memory) (ran (lateCopy n) .observations) ≡ false
+  premiseFails : notTooLate (emptyBook roundMemory) (ran (lateCopy n) .observations) ≡ false
   answer : last (refused 0 0) (ran (lateCopy n) .system .answers) ≡ refused 6 0
 
 abbrev RefusedLast : System → Book → Type 0
@@ -411,8 +411,8 @@ ack-in-time : (n : ℕ) → 0 < n → n ≤ 32768 → AckAgain n
 unfolding lateAck
 ack-in-time n h few = go (whole specified specified-in-turn true (Through n) n (reads 0 ∷ []) (ack-leads n h few))
   where
-    go : Leads specified specified-in-turn true (Through n) (lateAck n) (initial specified 2 1 64 slots₀ memory)
-        (emptyBook memory)
+    go : Leads specified specified-in-turn true (Through n) (lateAck n) (initial specified 2 1 64 slots₀ roundMemory)
+        (emptyBook roundMemory)
         → AckAgain n
     go l =
         let p : Premises (lateAck n) =
@@ -433,7 +433,7 @@ ack-at-limit : AckAgain 32768
 ack-at-limit = ack-in-time 32768 (lit< tt) (lit≤ tt)
 
 ack-too-late : (n : ℕ) → 32768 < n → n ≤ 65535
-    → notTooLate (emptyBook memory) (ran (lateAck n) .observations) ≡ false
+    → notTooLate (emptyBook roundMemory) (ran (lateAck n) .observations) ≡ false
 unfolding lateAck typed allTyped run bookFrom notTooLate inTime ackInTime messagesIn step byCard
 ack-too-late n far few = whole specified specified-in-turn false (λ w b. Unit {0}) n (reads 0 ∷ []) leads .timing
   where

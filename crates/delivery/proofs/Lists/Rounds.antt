@@ -190,60 +190,60 @@ bare = record { count = 0; completionAddress = 0; completionValue = 0; unfinishe
 abbrev pub double : Transaction
 double = record { count = 2; completionAddress = 0; completionValue = 0; unfinishedAtOpening = [] }
 
-unfoldable pub closed : ℕ → List Transaction → List Transaction
-closed zero ts = ts
-closed (suc n) ts = bare ∷ closed n ts
+unfoldable pub spent : ℕ → List Transaction → List Transaction
+spent zero ts = ts
+spent (suc n) ts = bare ∷ spent n ts
 
-pub closed-length : (n : ℕ) (ts : List Transaction) → length (closed n ts) ≡ n + length ts
-unfolding closed
-closed-length zero ts = omega arith
-closed-length (suc n) ts = omega (arith, closed-length n ts)
+pub spent-length : (n : ℕ) (ts : List Transaction) → length (spent n ts) ≡ n + length ts
+unfolding spent
+spent-length zero ts = omega arith
+spent-length (suc n) ts = omega (arith, spent-length n ts)
 
-pub closed-append : (n : ℕ) (ts us : List Transaction) → closed n ts ++ us ≡ closed n (ts ++ us)
-unfolding closed
-closed-append zero ts us = refl
-closed-append (suc n) ts us = ap {B = List Transaction} (λ r. bare ∷ r) (closed-append n ts us)
+pub spent-append : (n : ℕ) (ts us : List Transaction) → spent n ts ++ us ≡ spent n (ts ++ us)
+unfolding spent
+spent-append zero ts us = refl
+spent-append (suc n) ts us = ap {B = List Transaction} (λ r. bare ∷ r) (spent-append n ts us)
 
-pub closed-next : (n : ℕ) (ts : List Transaction) → closed n (bare ∷ ts) ≡ closed (suc n) ts
-unfolding closed
-closed-next zero ts = refl
-closed-next (suc n) ts = ap {B = List Transaction} (λ r. bare ∷ r) (closed-next n ts)
+pub spent-next : (n : ℕ) (ts : List Transaction) → spent n (bare ∷ ts) ≡ spent (suc n) ts
+unfolding spent
+spent-next zero ts = refl
+spent-next (suc n) ts = ap {B = List Transaction} (λ r. bare ∷ r) (spent-next n ts)
 
-pub closed-at : (n i c : ℕ) (ts : List Transaction) → c ≡ n + i
-    → getD (closed n ts) c noTransaction ≡ getD ts i noTransaction
-unfolding closed
-closed-at zero i c ts q = ap (λ (j : ℕ). getD ts j noTransaction) (omega arith)
-closed-at (suc n) i zero ts q = absurd (omega arith)
-closed-at (suc n) i (suc c) ts q = closed-at n i c ts (omega arith)
+pub spent-at : (n i c : ℕ) (ts : List Transaction) → c ≡ n + i
+    → getD (spent n ts) c noTransaction ≡ getD ts i noTransaction
+unfolding spent
+spent-at zero i c ts q = ap (λ (j : ℕ). getD ts j noTransaction) (omega arith)
+spent-at (suc n) i zero ts q = absurd (omega arith)
+spent-at (suc n) i (suc c) ts q = spent-at n i c ts (omega arith)
 
-pub closed-bare : (n i : ℕ) (ts : List Transaction) → i < n → getD (closed n ts) i noTransaction ≡ bare
-unfolding closed
-closed-bare zero i ts h = absurd (omega arith)
-closed-bare (suc n) zero ts h = refl
-closed-bare (suc n) (suc i) ts h = closed-bare n i ts (omega arith)
+pub spent-bare : (n i : ℕ) (ts : List Transaction) → i < n → getD (spent n ts) i noTransaction ≡ bare
+unfolding spent
+spent-bare zero i ts h = absurd (omega arith)
+spent-bare (suc n) zero ts h = refl
+spent-bare (suc n) (suc i) ts h = spent-bare n i ts (omega arith)
 
-closed-some : (n : ℕ) (ts : List Transaction) (d : Transaction) → List·Memᴰ d (closed n ts)
+spent-some : (n : ℕ) (ts : List Transaction) (d : Transaction) → List·Memᴰ d (spent n ts)
     → (d ≡ bare) ⊎ List·Memᴰ d ts
-unfolding closed
-closed-some zero ts d m = inr m
-closed-some (suc n) ts d m = go (closed-some n ts d) (List·Memᴰ·cases-cons m)
+unfolding spent
+spent-some zero ts d m = inr m
+spent-some (suc n) ts d m = go (spent-some n ts d) (List·Memᴰ·cases-cons m)
   where
-    go : (List·Memᴰ d (closed n ts) → (d ≡ bare) ⊎ List·Memᴰ d ts) → (d ≡ bare) ⊎ List·Memᴰ d (closed n ts)
+    go : (List·Memᴰ d (spent n ts) → (d ≡ bare) ⊎ List·Memᴰ d ts) → (d ≡ bare) ⊎ List·Memᴰ d (spent n ts)
         → (d ≡ bare) ⊎ List·Memᴰ d ts
     go h (inl q) = inl q
     go h (inr k) = h k
 
 -- ---- the book
 
-unfoldable pub memory : List ℕ
-memory = replicate 8 0
+unfoldable pub roundMemory : List ℕ
+roundMemory = replicate 8 0
 
 -- Between rounds, n rounds are through; ts and fs are the transactions and the frames after them.
 abbrev pub page : ℕ → List Transaction → List FrameRecord → List MessageRecord → List HandOut → List AckRange
     → List Expected → Book
 page n ts fs building handOuts acksDue expected = record {
-  start = memory;
-  transactions = closed n ts;
+  start = roundMemory;
+  transactions = spent n ts;
   frames = past 0 n fs;
   building = building;
   handOuts = handOuts;
@@ -298,15 +298,15 @@ module _ (n : ℕ) (ts : List Transaction) (fs : List FrameRecord) (building : L
     pub low-is : lowUnfinished here ≡ n
     unfolding finished
     low-is =
-        leading-is (finished here) (length (closed n ts)) n (omega (arith, closed-length n ts))
-        (λ i h. rw (released-messages, closed-bare n i ts h) (full i h))
+        leading-is (finished here) (length (spent n ts)) n (omega (arith, spent-length n ts))
+        (λ i h. rw (released-messages, spent-bare n i ts h) (full i h))
         (λ h. rw released-messages
         (not-full-none (transactionAt here n) n (messagesIn anyFrame (past 0 n [])) (none-released n (omega arith))))
 
     unfinished-from : (m j : ℕ) (es : List MessageRecord)
         → ((i : ℕ) → j ≤ i → i < j + m → allMessagesIn bare i es ≡ true)
-        → unfinishedFrom j (closed m ts) es ≡ unfinishedFrom (j + m) ts es
-    unfolding closed unfinishedFrom
+        → unfinishedFrom j (spent m ts) es ≡ unfinishedFrom (j + m) ts es
+    unfolding spent unfinishedFrom
     unfinished-from zero j es all = ap (λ (i : ℕ). unfinishedFrom i ts es) (omega arith)
     unfinished-from (suc m) j es all =
         rw (all j (omega arith) (omega arith))
@@ -326,15 +326,15 @@ module _ (n : ℕ) (ts : List Transaction) (fs : List FrameRecord) (building : L
     not-finished d i h = not-full-none d i (messagesIn anyFrame (past 0 n [])) (none-released i h)
 
   -- the lowest that is not complete at the host
-  pub low-open : count n (messagesIn isAccepted fs) ≡ 0 → low (closed n ts) (acceptedMessages here) ≡ n
+  pub low-open : count n (messagesIn isAccepted fs) ≡ 0 → low (spent n ts) (acceptedMessages here) ≡ n
   unfolding allMessagesIn needed
   low-open none =
-      leading-is (fullAt (closed n ts) (acceptedMessages here)) (length (closed n ts)) n
-      (omega (arith, closed-length n ts))
-      (λ i h. rw (closed-bare n i ts h)
+      leading-is (fullAt (spent n ts) (acceptedMessages here)) (length (spent n ts)) n
+      (omega (arith, spent-length n ts))
+      (λ i h. rw (spent-bare n i ts h)
       (le-leb 1 (count i (acceptedMessages here))
       (omega (arith, count-inside isAccepted (λ t. refl) 0 n i fs (omega arith) (omega arith)))))
-      (λ h. not-full-none (getD (closed n ts) n noTransaction) n (acceptedMessages here)
+      (λ h. not-full-none (getD (spent n ts) n noTransaction) n (acceptedMessages here)
       (count-outside isAccepted (λ t. refl) 0 n n fs (λ a b. omega arith) ∙ none))
 
 -- ---- the premise on writes
@@ -368,7 +368,7 @@ through-bare k (suc n) fs h =
 pub record Fitting (n : ℕ) (ts : List Transaction) : Type 0 where
   pub inside : (d : Transaction) → List·Memᴰ d ts → d .completionAddress + 4 ≤ 8
   pub after : (i j : ℕ) → j < length ts → List·Memᴰ i (getD ts j noTransaction .unfinishedAtOpening)
-      → getD (closed n ts) i noTransaction .completionAddress + 4 ≤ getD ts j noTransaction .completionAddress
+      → getD (spent n ts) i noTransaction .completionAddress + 4 ≤ getD ts j noTransaction .completionAddress
 
 pub fitting-none : (n : ℕ) → Fitting n []
 fitting-none n = record {
@@ -391,35 +391,36 @@ fitting-one n count value = record {
     go d (inr m) = absurd (List·Memᴰ·not-nil m)
 
     later : (i j : ℕ) → j < 1 → List·Memᴰ i (getD (only ∷ []) j noTransaction .unfinishedAtOpening)
-        → getD (closed n (only ∷ [])) i noTransaction .completionAddress + 4 ≤ getD (only ∷ []) j noTransaction .completionAddress
+        → getD (spent n (only ∷ [])) i noTransaction .completionAddress + 4 ≤ getD (only ∷ []) j noTransaction .completionAddress
     later i zero h m = absurd (List·Memᴰ·not-nil m)
     later i (suc j) h m = absurd (omega arith)
 
 -- a transaction opened while the one before it is unfinished
-abbrev pub next : ℕ → Transaction
-next n = record { count = 0; completionAddress = 4; completionValue = 0; unfinishedAtOpening = n ∷ [] }
+abbrev pub openedNext : ℕ → Transaction
+openedNext n = record { count = 0; completionAddress = 4; completionValue = 0; unfinishedAtOpening = n ∷ [] }
 
-pub fitting-two : (n : ℕ) → Fitting n (bare ∷ next n ∷ [])
+pub fitting-two : (n : ℕ) → Fitting n (bare ∷ openedNext n ∷ [])
 fitting-two n = record {
   inside = λ d m. go d (List·Memᴰ·cases-cons m);
   after = λ i j h m. later i j h m;
 }
   where
-    last : (d : Transaction) → (d ≡ next n) ⊎ List·Memᴰ d [] → d .completionAddress + 4 ≤ 8
+    last : (d : Transaction) → (d ≡ openedNext n) ⊎ List·Memᴰ d [] → d .completionAddress + 4 ≤ 8
     last d (inl q) = rw q (lit≤ tt)
     last d (inr m) = absurd (List·Memᴰ·not-nil m)
 
-    go : (d : Transaction) → (d ≡ bare) ⊎ List·Memᴰ d (next n ∷ []) → d .completionAddress + 4 ≤ 8
+    go : (d : Transaction) → (d ≡ bare) ⊎ List·Memᴰ d (openedNext n ∷ []) → d .completionAddress + 4 ≤ 8
     go d (inl q) = rw q (lit≤ tt)
     go d (inr m) = last d (List·Memᴰ·cases-cons m)
 
-    only : (i : ℕ) → (i ≡ n) ⊎ List·Memᴰ i [] → getD (closed n (bare ∷ next n ∷ [])) i noTransaction .completionAddress + 4 ≤ 4
-    only i (inl q) = rw (closed-at n 0 i (bare ∷ next n ∷ []) (omega arith)) (lit≤ tt)
+    only : (i : ℕ) → (i ≡ n) ⊎ List·Memᴰ i []
+        → getD (spent n (bare ∷ openedNext n ∷ [])) i noTransaction .completionAddress + 4 ≤ 4
+    only i (inl q) = rw (spent-at n 0 i (bare ∷ openedNext n ∷ []) (omega arith)) (lit≤ tt)
     only i (inr m) = absurd (List·Memᴰ·not-nil m)
 
-    later : (i j : ℕ) → j < 2 → List·Memᴰ i (getD (bare ∷ next n ∷ []) j noTransaction .unfinishedAtOpening)
-        → getD (closed n (bare ∷ next n ∷ [])) i noTransaction .completionAddress + 4
-        ≤ getD (bare ∷ next n ∷ []) j noTransaction .completionAddress
+    later : (i j : ℕ) → j < 2 → List·Memᴰ i (getD (bare ∷ openedNext n ∷ []) j noTransaction .unfinishedAtOpening)
+        → getD (spent n (bare ∷ openedNext n ∷ [])) i noTransaction .completionAddress + 4
+        ≤ getD (bare ∷ openedNext n ∷ []) j noTransaction .completionAddress
     later i zero h m = absurd (List·Memᴰ·not-nil m)
     later i (suc zero) h m = only i (List·Memᴰ·cases-cons m)
     later i (suc (suc j)) h m = absurd (omega arith)
@@ -427,25 +428,25 @@ fitting-two n = record {
 pub page-allowed : (n : ℕ) (ts : List Transaction) (fs : List FrameRecord) → Fitting n ts
     → AllBare (messagesIn anyFrame fs ++ []) → (hs : List HandOut) (ds : List AckRange) (ys : List Expected)
     → WritesAllowed (page n ts fs [] hs ds ys)
-unfolding memory
+unfolding roundMemory
 page-allowed n ts fs t h hs ds ys =
     allowed-without-bytes (page n ts fs [] hs ds ys) (λ e m. through-bare 0 n fs h e m .0)
-    (λ e m. rw (through-bare 0 n fs h e m .1) (lit≤ tt)) (λ d m. inside d (closed-some n ts d m))
+    (λ e m. rw (through-bare 0 n fs h e m .1) (lit≤ tt)) (λ d m. inside d (spent-some n ts d m))
     (λ i j l k m. apart i j k m (decLt j n))
   where
     inside : (d : Transaction) → (d ≡ bare) ⊎ List·Memᴰ d ts → d .completionAddress + 4 ≤ 8
     inside d (inl q) = rw q (lit≤ tt)
     inside d (inr m) = t .inside d m
 
-    apart : (i j : ℕ) → j < length (closed n ts)
-        → List·Memᴰ i (getD (closed n ts) j noTransaction .unfinishedAtOpening) → Dec (j < n)
-        → getD (closed n ts) i noTransaction .completionAddress + 4 ≤ getD (closed n ts) j noTransaction .completionAddress
+    apart : (i j : ℕ) → j < length (spent n ts)
+        → List·Memᴰ i (getD (spent n ts) j noTransaction .unfinishedAtOpening) → Dec (j < n)
+        → getD (spent n ts) i noTransaction .completionAddress + 4 ≤ getD (spent n ts) j noTransaction .completionAddress
     apart i j k m (yes p) =
         absurd (List·Memᴰ·not-nil (subst (λ (d : Transaction). List·Memᴰ i (d .unfinishedAtOpening))
-        (closed-bare n j ts p) m))
+        (spent-bare n j ts p) m))
     apart i j k m (no p) =
-        let q : getD (closed n ts) j noTransaction ≡ getD ts (j - n) noTransaction =
-        closed-at n (j - n) j ts (omega arith) in
-        subst (λ (d : Transaction). getD (closed n ts) i noTransaction .completionAddress + 4 ≤ d .completionAddress) (sym q)
-        (t .after i (j - n) (omega (arith, closed-length n ts))
+        let q : getD (spent n ts) j noTransaction ≡ getD ts (j - n) noTransaction =
+        spent-at n (j - n) j ts (omega arith) in
+        subst (λ (d : Transaction). getD (spent n ts) i noTransaction .completionAddress + 4 ≤ d .completionAddress) (sym q)
+        (t .after i (j - n) (omega (arith, spent-length n ts))
         (subst (λ (d : Transaction). List·Memᴰ i (d .unfinishedAtOpening)) q m))

@@ -135,12 +135,12 @@ use Rattle.delivery.proofs.Lists.Rounds.{
   past-leads,
   bare,
   double,
-  closed,
-  closed-length,
-  closed-append,
-  closed-next,
-  closed-at,
-  memory,
+  spent,
+  spent-length,
+  spent-append,
+  spent-next,
+  spent-at,
+  roundMemory,
   page,
   TermsFit,
   message-fits,
@@ -248,7 +248,7 @@ module _ (w : System) (b : Book) (k c : ℕ) (e : MessageRecord) (a : Arrival w 
 -- transaction not complete.
 pub record InTurn (e : Implementation) : Type 0 where
   pub opensBoth : BothOpen 2 1 (e .cardEnd .cardOpening 2 1 64 slots₀) (e .hostEnd .hostOpening 1 2)
-  pub freshSame : initial e 2 1 64 slots₀ memory ≡ initial specified 2 1 64 slots₀ memory
+  pub freshSame : initial e 2 1 64 slots₀ roundMemory ≡ initial specified 2 1 64 slots₀ roundMemory
   pub openSame : (w : System) (count address value : ℕ)
       → step e w (opens count address value) ≡ cardStep specifiedCard w (openCall count address value)
   pub addSame : (w : System) (t at : ℕ) (bytes : List ℕ)
@@ -376,7 +376,7 @@ module _ (ends : Implementation) (turns : InTurn ends) (timely : Bool) (End : Sy
     released : releasedCount here ≡ n
     released = released-is n ts fs [] hs ds ys unreleased
 
-    pub opening : (count address value : ℕ) → typed (opens count address value) ≡ true → length ts < 32
+    pub then-opening : (count address value : ℕ) → typed (opens count address value) ≡ true → length ts < 32
         → (us : List ℕ) → unfinished here ≡ us → (xs : List Event)
         → Leading xs (page n (ts ++ (record {
           count = count;
@@ -386,7 +386,7 @@ module _ (ends : Implementation) (turns : InTurn ends) (timely : Bool) (End : Sy
         } ∷ [])) fs [] hs ds ys)
         → Leading (opens count address value ∷ xs) here
     unfolding typed inTime enterOpening
-    opening count address value fits few us are xs later w f =
+    then-opening count address value fits few us are xs later w f =
         before (opens count address value) xs w here next _ (turns .openSame w count address value) fits refl entered
         (later _ (subst (For (cardStep specifiedCard w (openCall count address value) .system)) entered
         (step-opens 2 1 cardFits hostFits w here f count address value fits)))
@@ -400,20 +400,21 @@ module _ (ends : Implementation) (turns : InTurn ends) (timely : Bool) (End : Sy
         entered : bookStep here (cardStep specifiedCard w (openCall count address value) .observation) ≡ next
         entered =
             opening-entered 2 1 cardFits hostFits w here f count address value
-            (omega (arith, closed-length n ts, low-is n ts fs [] hs ds ys unreleased))
-            ∙ ap (λ (l : List ℕ). withTransactions here (closed n ts ++ (record {
+            (omega (arith, spent-length n ts, low-is n ts fs [] hs ds ys unreleased))
+            ∙ ap (λ (l : List ℕ). withTransactions here (spent n ts ++ (record {
               count = count;
               completionAddress = address;
               completionValue = value;
               unfinishedAtOpening = l;
             } ∷ []))) are
-            ∙ ap (λ (l : List Transaction). withTransactions here l) (closed-append n ts (new ∷ []))
+            ∙ ap (λ (l : List Transaction). withTransactions here l) (spent-append n ts (new ∷ []))
 
-    pub sealing : (i t num : ℕ) → i < length ts → t ≡ n + i → num ≡ t % transSpace → length ts ≤ 32 → length fs < 64
+    pub then-sealing : (i t num : ℕ) → i < length ts → t ≡ n + i → num ≡ t % transSpace → length ts ≤ 32
+        → length fs < 64
         → count t (messagesIn anyFrame fs) < needed (getD ts i noTransaction .count) → (xs : List Event)
         → Leading xs (page n ts (fs ++ (sealedFrame t ∷ [])) [] hs ds ys) → Leading (adds num 0 [] ∷ seals ∷ xs) here
     unfolding enterMessage enterSealing typed inTime
-    sealing i t num known is isNumber most few room xs later w f =
+    then-sealing i t num known is isNumber most few room xs later w f =
         before (adds num 0 []) (seals ∷ xs) w here building _ (turns .addSame w num 0 []) typedOk refl added
         (sealed _ (subst (For (cardStep specifiedCard w (addCall num 0 []) .system)) added
         (step-adds 2 1 cardFits hostFits w here f num 0 [] typedOk)))
@@ -424,20 +425,20 @@ module _ (ends : Implementation) (turns : InTurn ends) (timely : Bool) (End : Sy
         building : Book
         building = page n ts fs (message t ∷ []) hs ds ys
 
-        means : latest transSpace (length (closed n ts)) (t % transSpace) ≡ t
+        means : latest transSpace (length (spent n ts)) (t % transSpace) ≡ t
         means =
-            latest-is transSpace (lit< tt) (length (closed n ts)) t (omega (arith, closed-length n ts))
-            (omega (arith, closed-length n ts))
+            latest-is transSpace (lit< tt) (length (spent n ts)) t (omega (arith, spent-length n ts))
+            (omega (arith, spent-length n ts))
 
         more : count t (addedMessages here) < needed (transactionAt here t .count)
         more =
-            rw (append-nil (messagesIn anyFrame (past 0 n fs)), closed-at n i t ts is)
+            rw (append-nil (messagesIn anyFrame (past 0 n fs)), spent-at n i t ts is)
             (omega (arith, room, page-count n ts fs [] hs ds ys t (omega arith)))
 
         added : bookStep here (cardStep specifiedCard w (addCall num 0 []) .observation) ≡ building
         added =
             ap (λ (k : ℕ). bookStep here (cardStep specifiedCard w (addCall k 0 []) .observation)) isNumber
-            ∙ adding-entered 2 1 cardFits hostFits w here f t (omega (arith, closed-length n ts)) more refl
+            ∙ adding-entered 2 1 cardFits hostFits w here f t (omega (arith, spent-length n ts)) more refl
             (omega (arith, released, past-length 0 n fs)) 0
             ∙ ap (λ (k : ℕ). page n ts fs (message k ∷ []) hs ds ys) means
 
@@ -454,11 +455,11 @@ module _ (ends : Implementation) (turns : InTurn ends) (timely : Bool) (End : Sy
                 sealing-entered 2 1 cardFits hostFits v building g (omega arith)
                 ∙ ap (λ (l : List FrameRecord). withFrames building l []) (past-append 0 n fs (sealedFrame t ∷ []))
 
-    pub showing : (i c num : ℕ) → i < length fs → c ≡ n + i → num ≡ c % frameSpace
+    pub then-showing : (i c num : ℕ) → i < length fs → c ≡ n + i → num ≡ c % frameSpace
         → getD fs i noFrame .acknowledged ≡ false → (xs : List Event)
         → Leading xs (page n ts fs [] (hs ++ (frameCopy c ∷ [])) ds ys) → Leading (shows num ∷ xs) here
     unfolding enterHandOut typed inTime
-    showing i c num inside q isNumber isOpen xs later w f =
+    then-showing i c num inside q isNumber isOpen xs later w f =
         before (shows num) xs w here (page n ts fs [] (hs ++ (frameCopy c ∷ [])) ds ys) _ (turns .showSame w num) fits
         refl handed
         (later _ (subst (For (cardStep specifiedCard w (showCall num) .system)) handed
@@ -476,8 +477,8 @@ module _ (ends : Implementation) (turns : InTurn ends) (timely : Bool) (End : Sy
             (ap (λ (x : FrameRecord). x .acknowledged) (past-at 0 n i c fs q) ∙ isOpen)
 
     -- The i-th frame of fs, which holds one message of transaction t, arrives. How the host takes it in is given.
-    pub receiving : (i c t k : ℕ) → c ≡ n + i → getD fs i noFrame .messages ≡ message t ∷ []
-        → TermsFit (getD (closed n ts) t noTransaction) → getElem? hs k ≡ some (frameCopy c)
+    pub then-receiving : (i c t k : ℕ) → c ≡ n + i → getD fs i noFrame .messages ≡ message t ∷ []
+        → TermsFit (getD (spent n ts) t noTransaction) → getElem? hs k ≡ some (frameCopy c)
         → lowestNotAccepted here ≤ c → WritesAllowed (page n ts (changeAt fs i markAccepted) [] hs ds ys)
         → ((w : System) → Arrival w here k c (message t) → step ends w (receives k) ≡ hostStep specifiedHost w k)
         → (xs : List Event)
@@ -485,7 +486,7 @@ module _ (ends : Implementation) (turns : InTurn ends) (timely : Bool) (End : Sy
         → Leading xs (page n ts (changeAt fs i markAccepted) [] hs (ds ++ (oneFrame c ∷ [])) zs))
         → Leading (receives k ∷ xs) here
     unfolding typed enterArrival
-    receiving i c t k is holds fit copied inTurn allowed same xs later w f =
+    then-receiving i c t k is holds fit copied inTurn allowed same xs later w f =
         before (receives k) xs w here next _ (same w arrival) refl late came
         (later (next .expected) _ (subst (For (hostStep specifiedHost w k .system)) came
         (step-receives 2 1 cardFits hostFits w here f k late (subst WritesAllowed (sym came) (kept allowed)))))
@@ -504,7 +505,7 @@ module _ (ends : Implementation) (turns : InTurn ends) (timely : Bool) (End : Sy
           agree = f;
           copied = copied;
           holds = ap (λ (x : FrameRecord). x .messages) (past-at 0 n i c fs is) ∙ holds;
-          fits = message-fits (closed n ts) t fit;
+          fits = message-fits (spent n ts) t fit;
         }
 
         late : inTime here (receives k) ≡ true
@@ -516,13 +517,13 @@ module _ (ends : Implementation) (turns : InTurn ends) (timely : Bool) (End : Sy
             ∙ ap (λ (l : List FrameRecord). withFrames next l []) (past-change 0 n i c fs markAccepted is)
 
     -- The acknowledgement of frame c, called for k-th, is read. How the card reads it is given.
-    pub reading : (c k : ℕ) → getElem? ds k ≡ some (oneFrame c) → n ≤ c
+    pub then-reading : (c k : ℕ) → getElem? ds k ≡ some (oneFrame c) → n ≤ c
         → ((w : System) → For w here → step ends w (reads k) ≡ cardStep specifiedCard w (readCall k))
         → (xs : List Event)
         → Leading xs (page n ts (markWhere (λ i. covers (oneFrame c) (n + i)) markAcknowledged fs) [] hs ds ys)
         → Leading (reads k ∷ xs) here
     unfolding typed inTime ackInTime enterAck
-    reading c k due inTurn same xs later w f =
+    then-reading c k due inTurn same xs later w f =
         before (reads k) xs w here next _ (same w f) refl late came
         (later _ (subst (For (cardStep specifiedCard w (readCall k) .system)) came
         (step-reads 2 1 cardFits hostFits w here f k late)))
@@ -543,9 +544,9 @@ module _ (ends : Implementation) (turns : InTurn ends) (timely : Bool) (End : Sy
     abbrev one : List Transaction
     one = bare ∷ []
 
-    bare-at : TermsFit (getD (closed n one) n noTransaction)
+    bare-at : TermsFit (getD (spent n one) n noTransaction)
     bare-at =
-        subst TermsFit (sym (closed-at n 0 n one (omega arith)))
+        subst TermsFit (sym (spent-at n 0 n one (omega arith)))
         (record { count-fits = lit< tt; address-fits = lit< tt; value-fits = lit< tt })
 
     pub none-else : unfinished (page n [] [] [] hs ds ys) ≡ []
@@ -561,7 +562,7 @@ module _ (ends : Implementation) (turns : InTurn ends) (timely : Bool) (End : Sy
         ≡ page n one (markWhere (λ i. covers (oneFrame n) (n + i)) markAcknowledged (acceptedFrame n ∷ [])) [] hs′ ds′
         zs
     through hs′ ds′ zs =
-        sym (rw (first-marked, closed-next n [], past-next 0 n n [] (omega arith)) refl)
+        sym (rw (first-marked, spent-next n [], past-next 0 n n [] (omega arith)) refl)
 
     round : length hs ≡ n → length ds ≡ n → (xs : List Event)
         → ((zs : List Expected) → Leading xs (page (suc n) [] [] [] (hs ++ (frameCopy n ∷ []))
@@ -570,14 +571,15 @@ module _ (ends : Implementation) (turns : InTurn ends) (timely : Bool) (End : Sy
         ∷ xs) (page n [] [] [] hs ds ys)
     unfolding typed needed messagesIn ofTransaction changeAt
     round long due xs later =
-        opening n [] [] hs ds ys refl 0 0 0 refl (lit< tt) [] none-else _
-        (sealing n one [] hs ds ys refl 0 n (n % transSpace) (lit< tt) (omega arith) refl (lit≤ tt) (lit< tt) (lit< tt)
+        then-opening n [] [] hs ds ys refl 0 0 0 refl (lit< tt) [] none-else _
+        (then-sealing n one [] hs ds ys refl 0 n (n % transSpace) (lit< tt) (omega arith) refl (lit≤ tt) (lit< tt)
+        (lit< tt)
         _
-        (showing n one (sealedFrame n ∷ []) hs ds ys refl 0 n (n % frameSpace) (lit< tt) (omega arith) refl refl _
-        (receiving n one (sealedFrame n ∷ []) hs′ ds ys refl 0 n n n (omega arith) refl bare-at
+        (then-showing n one (sealedFrame n ∷ []) hs ds ys refl 0 n (n % frameSpace) (lit< tt) (omega arith) refl refl _
+        (then-receiving n one (sealedFrame n ∷ []) hs′ ds ys refl 0 n n n (omega arith) refl bare-at
         (seam hs (frameCopy n) n long) (omega (arith, lowest))
         (page-allowed n one (acceptedFrame n ∷ []) (fitting-one n 0 0) (bares (n ∷ [])) _ _ _) in-turn _
-        (λ zs. reading n one (acceptedFrame n ∷ []) hs′ ds′ zs refl n n (seam ds (oneFrame n) n due) (omega arith)
+        (λ zs. then-reading n one (acceptedFrame n ∷ []) hs′ ds′ zs refl n n (seam ds (oneFrame n) n due) (omega arith)
         (λ w f. turns .readSame w _ n n f (seam ds (oneFrame n) n due)
         (released-is n one (acceptedFrame n ∷ []) [] hs′ ds′ zs refl)) xs
         (subst (Leading xs) (through hs′ ds′ zs) (later zs))))))
@@ -618,22 +620,22 @@ module _ (ends : Implementation) (turns : InTurn ends) (timely : Bool) (End : Sy
       → Leading (opens 2 0 0 ∷ adds num 0 [] ∷ seals ∷ adds num 0 [] ∷ seals ∷ xs) (page n [] [] [] hs ds ys)
   unfolding typed needed messagesIn ofTransaction
   two-sealed n num hs ds ys is xs later =
-      opening n [] [] hs ds ys refl 2 0 0 refl (lit< tt) [] (none-else n hs ds ys) _
-      (sealing n (double ∷ []) [] hs ds ys refl 0 n num (lit< tt) (omega arith) is (lit≤ tt) (lit< tt) (lit< tt) _
-      (sealing n (double ∷ []) (sealedFrame n ∷ []) hs ds ys refl 0 n num (lit< tt) (omega arith) is (lit≤ tt)
+      then-opening n [] [] hs ds ys refl 2 0 0 refl (lit< tt) [] (none-else n hs ds ys) _
+      (then-sealing n (double ∷ []) [] hs ds ys refl 0 n num (lit< tt) (omega arith) is (lit≤ tt) (lit< tt) (lit< tt) _
+      (then-sealing n (double ∷ []) (sealedFrame n ∷ []) hs ds ys refl 0 n num (lit< tt) (omega arith) is (lit≤ tt)
       (lit< tt) (omega (arith, ap length (ofTransaction-cons-same n (message n) [] refl))) xs later))
 
-  abbrev pub start : System
-  start = initial ends 2 1 64 slots₀ memory
+  abbrev pub freshSystem : System
+  freshSystem = initial ends 2 1 64 slots₀ roundMemory
 
   -- n rounds from two fresh ends on, and then xs
   pub whole : (n : ℕ) (xs : List Event)
       → ((zs : List Expected) → Leading xs (page n [] [] [] (roundCopies n) (roundAcks n) zs))
-      → Leads (rounds n 0 xs) start (emptyBook memory)
-  unfolding roundCopies roundAcks emptyBook past closed
+      → Leads (rounds n 0 xs) freshSystem (emptyBook roundMemory)
+  unfolding roundCopies roundAcks emptyBook past spent
   whole n xs later =
       let is : n ≡ 0 + n = omega arith in
       all-rounds n 0 [] xs
       (λ zs. subst (λ (m : ℕ). Leading xs (page m [] [] [] (roundCopies m) (roundAcks m) zs)) is (later zs))
-      start (subst (λ (w : System). For w (emptyBook memory)) (sym (turns .freshSame))
-      (starts 2 1 cardFits hostFits 64 slots₀ memory fresh-open))
+      freshSystem (subst (λ (w : System). For w (emptyBook roundMemory)) (sym (turns .freshSame))
+      (starts 2 1 cardFits hostFits 64 slots₀ roundMemory fresh-open))

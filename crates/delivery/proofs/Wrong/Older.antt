@@ -88,7 +88,7 @@ use Rattle.delivery.proofs.Lists.RoundsRun.{
   before,
   not-late,
   arrived,
-  showing,
+  then-showing,
   two-sealed,
   whole,
 }
@@ -101,9 +101,9 @@ use Rattle.delivery.proofs.Lists.Rounds.{
   past-at,
   past-leads,
   double,
-  closed,
-  closed-at,
-  memory,
+  spent,
+  spent-at,
+  roundMemory,
   page,
   TermsFit,
   message-fits,
@@ -225,9 +225,9 @@ module _ (n : ℕ) (is : n ≡ 65535) (hs : List HandOut) (ds : List AckRange) (
       new : frameAt b (suc n) .accepted ≡ false
       new = ap (λ (x : FrameRecord). x .accepted) there
 
-      fit : TermsFit (getD (closed n terms) n noTransaction)
+      fit : TermsFit (getD (spent n terms) n noTransaction)
       fit =
-          subst TermsFit (sym (closed-at n 0 n terms (omega arith)))
+          subst TermsFit (sym (spent-at n 0 n terms (omega arith)))
           (record { count-fits = lit< tt; address-fits = lit< tt; value-fits = lit< tt })
 
       arrival : Arrival w b n (suc n) (message n)
@@ -235,7 +235,7 @@ module _ (n : ℕ) (is : n ≡ 65535) (hs : List HandOut) (ds : List AckRange) (
         agree = f;
         copied = seam hs (frameCopy (suc n)) n long;
         holds = ap (λ (x : FrameRecord). x .messages) there;
-        fits = message-fits (closed n terms) n fit;
+        fits = message-fits (spent n terms) n fit;
       }
 
       lowest : lowestNotAccepted b ≡ n
@@ -263,7 +263,7 @@ module _ (n : ℕ) (is : n ≡ 65535) (hs : List HandOut) (ds : List AckRange) (
   after-rounds : length hs ≡ n → Leading older older-in-turn true Wrong (after n) (page n [] [] [] hs ds ys)
   after-rounds long =
       two-sealed older older-in-turn true Wrong n n hs ds ys (omega arith) _
-      (showing older older-in-turn true Wrong n terms two hs ds ys refl 1 (suc n) 0 (lit< tt) (omega arith)
+      (then-showing older older-in-turn true Wrong n terms two hs ds ys refl 1 (suc n) 0 (lit< tt) (omega arith)
       (omega arith) refl _ (lost long))
 
 -- ---- the theorem
@@ -274,4 +274,4 @@ not-older d =
     let r = whole older older-in-turn true Wrong 65535 (after 65535)
     (λ zs. after-rounds 65535 refl (roundCopies 65535) (roundAcks 65535) zs (copies-length 65535)) in
     r .reached
-    (d 2 1 64 slots₀ memory events (older-in-turn .opensBoth) (r .fitting) (r .timing) (r .allowed))
+    (d 2 1 64 slots₀ roundMemory events (older-in-turn .opensBoth) (r .fitting) (r .timing) (r .allowed))

@@ -91,8 +91,8 @@ use Rattle.delivery.proofs.Lists.RoundsRun.{
   seam,
   Leading,
   before,
-  showing,
-  receiving,
+  then-showing,
+  then-receiving,
   two-sealed,
   whole,
 }
@@ -107,9 +107,9 @@ use Rattle.delivery.proofs.Lists.Rounds.{
   past-done,
   past-leads,
   double,
-  closed,
-  closed-at,
-  memory,
+  spent,
+  spent-at,
+  roundMemory,
   page,
   TermsFit,
   bares,
@@ -186,9 +186,9 @@ module _ (n : ℕ) (is : n ≡ 65535) where
   abbrev terms : List Transaction
   terms = double ∷ []
 
-  fit : TermsFit (getD (closed n terms) n noTransaction)
+  fit : TermsFit (getD (spent n terms) n noTransaction)
   fit =
-      subst TermsFit (sym (closed-at n 0 n terms (omega arith)))
+      subst TermsFit (sym (spent-at n 0 n terms (omega arith)))
       (record { count-fits = lit< tt; address-fits = lit< tt; value-fits = lit< tt })
 
   -- the acknowledgements of the two frames, each for its own
@@ -347,15 +347,18 @@ module _ (n : ℕ) (is : n ≡ 65535) where
     unfolding changeAt messagesIn step
     after-rounds long due =
         two-sealed ends turns true Wrong n n hs ds ys (omega arith) _
-        (showing ends turns true Wrong n terms two hs ds ys refl 0 n 65535 (lit< tt) (omega arith) (rw is refl) refl _
-        (showing ends turns true Wrong n terms two hs₁ ds ys refl 1 (suc n) 0 (lit< tt) (omega arith) (rw is refl) refl
+        (then-showing ends turns true Wrong n terms two hs ds ys refl 0 n 65535 (lit< tt) (omega arith) (rw is refl)
+        refl _
+        (then-showing ends turns true Wrong n terms two hs₁ ds ys refl 1 (suc n) 0 (lit< tt) (omega arith) (rw is refl)
+        refl
         _
-        (receiving ends turns true Wrong n terms two hs₂ ds ys refl 1 (suc n) n (suc n) (omega arith) refl fit
+        (then-receiving ends turns true Wrong n terms two hs₂ ds ys refl 1 (suc n) n (suc n) (omega arith) refl fit
         (seam hs₁ (frameCopy (suc n)) (suc n) (omega (arith, length-append hs (frameCopy n ∷ []))))
         (omega (arith, past-leads (λ x. x .accepted) (λ t. refl) n two refl))
         (page-allowed n terms (sealedFrame n ∷ acceptedFrame n ∷ []) (fitting-one n 2 0) (bares (n ∷ n ∷ [])) _ _ _)
         (λ w a. refl) _
-        (λ zs. receiving ends turns true Wrong n terms (sealedFrame n ∷ acceptedFrame n ∷ []) hs₂ ds₁ zs refl 0 n n n
+        (λ zs. then-receiving ends turns true Wrong n terms (sealedFrame n ∷ acceptedFrame n ∷ []) hs₂ ds₁ zs refl 0 n n
+        n
         (omega arith) refl fit (still-at hs₁ (frameCopy (suc n) ∷ []) n (frameCopy n) (seam hs (frameCopy n) n long))
         (omega (arith, past-leads (λ x. x .accepted) (λ t. refl) n (sealedFrame n ∷ acceptedFrame n ∷ []) refl))
         (page-allowed n terms (acceptedFrame n ∷ acceptedFrame n ∷ []) (fitting-one n 2 0) (bares (n ∷ n ∷ [])) _ _ _)
@@ -387,4 +390,4 @@ not-readsPlainly d =
     let r = whole ends turns true Wrong 65535 (after 65535)
     (λ zs. after-rounds 65535 refl (roundCopies 65535) (roundAcks 65535) zs (copies-length 65535)
     (acks-length 65535)) in
-    r .reached (d 2 1 64 slots₀ memory events (turns .opensBoth) (r .fitting) (r .timing) (r .allowed))
+    r .reached (d 2 1 64 slots₀ roundMemory events (turns .opensBoth) (r .fitting) (r .timing) (r .allowed))

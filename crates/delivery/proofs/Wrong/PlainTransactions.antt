@@ -87,9 +87,9 @@ use Rattle.delivery.proofs.Lists.RoundsRun.{
   before,
   not-late,
   arrived,
-  opening,
-  sealing,
-  showing,
+  then-opening,
+  then-sealing,
+  then-showing,
   none-else,
   whole,
 }
@@ -102,10 +102,10 @@ use Rattle.delivery.proofs.Lists.Rounds.{
   past-at,
   past-leads,
   bare,
-  next,
-  closed,
-  closed-at,
-  memory,
+  openedNext,
+  spent,
+  spent-at,
+  roundMemory,
   page,
   TermsFit,
   message-fits,
@@ -192,7 +192,7 @@ other-kind (Refused r) q z = omega arith
 
 module _ (n : ℕ) (is : n ≡ 4294967295) (hs : List HandOut) (ds : List AckRange) (ys : List Expected) where
   abbrev terms : List Transaction
-  terms = bare ∷ next n ∷ []
+  terms = bare ∷ openedNext n ∷ []
 
   abbrev one : List FrameRecord
   one = sealedFrame (suc n) ∷ []
@@ -230,9 +230,9 @@ module _ (n : ℕ) (is : n ≡ 4294967295) (hs : List HandOut) (ds : List AckRan
       new : frameAt b n .accepted ≡ false
       new = ap (λ (x : FrameRecord). x .accepted) there
 
-      fit : TermsFit (getD (closed n terms) (suc n) noTransaction)
+      fit : TermsFit (getD (spent n terms) (suc n) noTransaction)
       fit =
-          subst TermsFit (sym (closed-at n 1 (suc n) terms (omega arith)))
+          subst TermsFit (sym (spent-at n 1 (suc n) terms (omega arith)))
           (record { count-fits = lit< tt; address-fits = lit< tt; value-fits = lit< tt })
 
       arrival : Arrival w b n n (message (suc n))
@@ -240,7 +240,7 @@ module _ (n : ℕ) (is : n ≡ 4294967295) (hs : List HandOut) (ds : List AckRan
         agree = f;
         copied = seam hs (frameCopy n) n long;
         holds = ap (λ (x : FrameRecord). x .messages) there;
-        fits = message-fits (closed n terms) (suc n) fit;
+        fits = message-fits (spent n terms) (suc n) fit;
       }
 
       awaited : lowestNotAccepted b ≡ n
@@ -272,12 +272,15 @@ module _ (n : ℕ) (is : n ≡ 4294967295) (hs : List HandOut) (ds : List AckRan
   after-rounds : length hs ≡ n → Leading ends turns true Wrong (after n) (page n [] [] [] hs ds ys)
   unfolding typed needed messagesIn ofTransaction
   after-rounds long =
-      opening ends turns true Wrong n [] [] hs ds ys refl 0 0 0 refl (lit< tt) []
+      then-opening ends turns true Wrong n [] [] hs ds ys refl 0 0 0 refl (lit< tt) []
       (none-else ends turns true Wrong n hs ds ys) _
-      (opening ends turns true Wrong n (bare ∷ []) [] hs ds ys refl 0 4 0 refl (lit< tt) (n ∷ []) first-unfinished _
-      (sealing ends turns true Wrong n terms [] hs ds ys refl 1 (suc n) 0 (lit< tt) (omega arith) (rw is refl) (lit≤ tt)
+      (then-opening ends turns true Wrong n (bare ∷ []) [] hs ds ys refl 0 4 0 refl (lit< tt) (n ∷ []) first-unfinished
+      _
+      (then-sealing ends turns true Wrong n terms [] hs ds ys refl 1 (suc n) 0 (lit< tt) (omega arith) (rw is refl)
+      (lit≤ tt)
       (lit< tt) (lit< tt) _
-      (showing ends turns true Wrong n terms one hs ds ys refl 0 n 65535 (lit< tt) (omega arith) (rw is refl) refl _
+      (then-showing ends turns true Wrong n terms one hs ds ys refl 0 n 65535 (lit< tt) (omega arith) (rw is refl) refl
+      _
       (lost long))))
 
 -- ---- the theorem
@@ -288,4 +291,4 @@ not-transactionsPlainly d =
     let r = whole ends turns true Wrong 4294967295 (after 4294967295)
     (λ zs. after-rounds 4294967295 refl (roundCopies 4294967295) (roundAcks 4294967295) zs (copies-length 4294967295))
     in
-    r .reached (d 2 1 64 slots₀ memory events (turns .opensBoth) (r .fitting) (r .timing) (r .allowed))
+    r .reached (d 2 1 64 slots₀ roundMemory events (turns .opensBoth) (r .fitting) (r .timing) (r .allowed))
