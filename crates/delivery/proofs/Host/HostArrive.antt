@@ -241,6 +241,7 @@ unfolding enterArrival
 start-arriving b c = refl
 
 module _ (h : Pair) (b : Book) (r : HostFor h b) (s : Sound b) (c : ℕ) (kept : WritesAllowed (enterArrival b c))
+    (counts : (i : ℕ) → i < length (b .transactions) → transactionAt b i .count < frameSpace)
     (inside : c < length (b .frames)) (inTime : lowestNotAccepted b ≤ c + 32768)
     (isNew : frameAt b c .accepted ≡ false)
     (countsFit : (i : ℕ) → i < length (b .transactions) → transactionAt b i .count < 65536) where

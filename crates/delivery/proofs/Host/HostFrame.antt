@@ -8,6 +8,7 @@ use mathlib.Core.Bool.{Bool, true, false, cond}
 use mathlib.Core.List.{List, [], _∷_, _++_, append-assoc, map}
 use lib.ListN.{length, getD, length-append}
 use lib.Seq.{sets, length-sets}
+use Rattle.seq.specs.Ring.{frameSpace}
 use Rattle.bitmap.proofs.Marks.{leading-mono}
 use Rattle.octets.specs.Octets.{little}
 use Rattle.octets.proofs.Octets.{length-little, written-inside}

@@ -12,7 +12,7 @@ use borrow.Author.Tests.{eq-eqb, ne-eqb, eqb-true, le-leb, lt-leb, leb-false, le
 use lib.Dec.{eqb, ltb, leb, lit<, eqb·suc-zero}
 use lib.ListN.{length, getD, set, length-set}
 use lib.Seq.{getD-set-same, getD-set-other}
-use Rattle.seq.specs.Ring.{distance, advance, transSpace}
+use Rattle.seq.specs.Ring.{distance, advance, frameSpace, transSpace}
 use Rattle.seq.proofs.Ring.{distance-ahead, same-count}
 use Rattle.bitmap.specs.Marks.{mark, withMark, leading, trailingOnes}
 use Rattle.bitmap.proofs.Marks.{
