@@ -4,25 +4,42 @@
 -- Assumes nothing.
 use Prim.Native.Nat.{ℕ, zero, suc, _≤_, _<_}
 use native.Mathlib.Omega.{arith}
-use mathlib.Core.Path.{_≡_, refl, ap, _∙_}
-use mathlib.Core.Bool.{true}
+use mathlib.Core.Path.{_≡_, refl, sym, ap, _∙_, subst}
+use mathlib.Core.Bool.{true, false}
 use mathlib.Core.List.{List, [], _∷_, _++_, map, List·Memᴰ·head}
 use lib.Dec.{lit≤, lit<}
 use lib.ListN.{length, replicate, getD}
+use Rattle.bitmap.specs.Marks.{leading}
+use Rattle.octets.specs.Octets.{little}
+use Rattle.wire.specs.Format.{needed}
 use Rattle.host.specs.declared.Answer.{Answer}
 use Rattle.card.specs.Window.{unreleased}
 use Rattle.delivery.specs.Book.{
+  MessageRecord,
+  nothingHanded,
+  lentAck,
+  frameCopy,
+  oneFrame,
   expectAccepted,
   expectAgain,
   expectNoEffect,
   Book,
+  messagesIn,
   frameAt,
   releasedCount,
   acceptedMessages,
   addedMessages,
   ofTransaction,
+  allMessagesIn,
+  transactionAt,
   finished,
+  perform,
+  dataWrites,
+  completionWrite,
+  writesOf,
+  bookWrites,
   bookMemory,
+  serialWrites,
   serialMemory,
   dataBytes,
   completeCount,
@@ -56,6 +73,9 @@ use Rattle.delivery.specs.Demand3.{
 use Rattle.delivery.proofs.Demand.{demand3}
 use Rattle.delivery.proofs.Lists.Check.{runs, booked, passes, applied}
 use Rattle.delivery.proofs.Lists.Computing.{computing}
+
+abbrev message : ℕ → ℕ → List ℕ → MessageRecord
+message t at bytes = record { trans = t; dataAddress = at; bytes = bytes }
 
 abbrev answersTo : List ℕ → List Event → List Answer
 answersTo memory events = runs specified memory events .system .answers
@@ -100,56 +120,72 @@ met = refl
 holds : Guarantees (outcomeOf (runs specified memory events .system)) book
 holds = applied specified demand3 memory events met
 
--- What the book expects of this list, and what it says of its two transactions: three messages, five bytes, and memory
--- as if the two had run one after the other.
-expected-is : map numberedAs (book .expected)
-    ≡ expectAccepted 1 (record { messages = 1; bytes = 1; completed = 0 })
-    ∷ expectAccepted 0 (record { messages = 1; bytes = 2; completed = 1 })
-    ∷ expectAgain 0
-    ∷ expectAccepted 2 (record { messages = 1; bytes = 2; completed = 1 })
-    ∷ expectAgain 0 ∷ expectNoEffect ∷ expectNoEffect ∷ []
-unfolding computing events
-expected-is = refl
+-- What the book says of this list, found by running it.
+written : Book
+written = record {
+  start = memory;
+  transactions =
+      record { count = 2; completionAddress = 16; completionValue = 7; unfinishedAtOpening = [] }
+      ∷ record { count = 1; completionAddress = 16; completionValue = 9; unfinishedAtOpening = [] } ∷ [];
+  frames =
+      record { messages = message 0 0 (1 ∷ 2 ∷ []) ∷ []; acknowledged = true; accepted = true }
+      ∷ record { messages = message 0 2 (3 ∷ []) ∷ []; acknowledged = true; accepted = true }
+      ∷ record { messages = message 1 1 (5 ∷ 6 ∷ []) ∷ []; acknowledged = true; accepted = true } ∷ [];
+  building = [];
+  handOuts =
+      frameCopy 0 ∷ frameCopy 0 ∷ frameCopy 1 ∷ frameCopy 0 ∷ frameCopy 2 ∷ nothingHanded ∷ lentAck ∷ [];
+  acksDue = oneFrame 1 ∷ oneFrame 0 ∷ oneFrame 0 ∷ oneFrame 2 ∷ oneFrame 0 ∷ [];
+  expected =
+      expectAccepted 1 (record { messages = 1; bytes = 1; completed = 0 })
+      ∷ expectAccepted 0 (record { messages = 1; bytes = 2; completed = 1 })
+      ∷ expectAgain 0
+      ∷ expectAccepted 2 (record { messages = 1; bytes = 2; completed = 1 })
+      ∷ expectAgain 0 ∷ expectNoEffect ∷ expectNoEffect ∷ [];
+}
 
-record WholeBook : Type 0 where
-  opened : length (book .transactions) ≡ 2
-  messages : neededBy (book .transactions) ≡ 3
-  bytes : bytesBy 0 (book .transactions) (addedMessages book) ≡ 5
-  inTurn : serialMemory book ≡ 1 ∷ 5 ∷ 6 ∷ replicate 13 0 ++ 9 ∷ 0 ∷ 0 ∷ 0 ∷ []
+book-is : book ≡ written
+unfolding computing events written
+book-is = refl
 
-whole-book : WholeBook
-unfolding computing events
-whole-book = record { opened = refl; messages = refl; bytes = refl; inTurn = refl }
+both-finished : (i : ℕ) → i < length (written .transactions) → finished written i ≡ true
+unfolding written finished allMessagesIn messagesIn ofTransaction leading needed
+both-finished zero h = refl
+both-finished (suc zero) h = refl
+both-finished (suc (suc i)) h = absurd (omega arith)
 
 all-finished : (i : ℕ) → i < length (book .transactions) → finished book i ≡ true
-unfolding computing events
-all-finished zero h = refl
-all-finished (suc zero) h = refl
-all-finished (suc (suc i)) h = absurd (omega arith)
+all-finished =
+    subst (λ (b : Book). (i : ℕ) → i < length (b .transactions) → finished b i ≡ true) (sym book-is) both-finished
 
--- What the theorem then says of the host: its answers one by one, their sums, and memory.
+-- What the theorem then says of the host: its answers one by one; and, with both transactions finished, three messages,
+-- five bytes, two transactions, and memory as if the two had run one after the other.
 answered : map seenAs (answersTo memory events)
     ≡ expectAccepted 1 (record { messages = 1; bytes = 1; completed = 0 })
     ∷ expectAccepted 0 (record { messages = 1; bytes = 2; completed = 1 })
     ∷ expectAgain 0
     ∷ expectAccepted 2 (record { messages = 1; bytes = 2; completed = 1 })
     ∷ expectAgain 0 ∷ expectNoEffect ∷ expectNoEffect ∷ []
-answered = holds .answersMatch ∙ expected-is
+unfolding written numberedAs
+answered = holds .answersMatch ∙ ap (λ (b : Book). map numberedAs (b .expected)) book-is
 
 whole : WhenAllFinished (outcomeOf (runs specified memory events .system)) book
 whole = holds .whenAllFinished all-finished
 
 messages-whole : messagesSum (answersTo memory events) ≡ 3
-messages-whole = whole .messagesWhole ∙ whole-book .messages
+unfolding written neededBy needed
+messages-whole = whole .messagesWhole ∙ ap (λ (b : Book). neededBy (b .transactions)) book-is
 
 bytes-whole : bytesSum (answersTo memory events) ≡ 5
-bytes-whole = whole .bytesWhole ∙ whole-book .bytes
+unfolding written messagesIn ofTransaction dataBytes bytesBy
+bytes-whole = whole .bytesWhole ∙ ap (λ (b : Book). bytesBy 0 (b .transactions) (addedMessages b)) book-is
 
 complete-whole : completeSum (answersTo memory events) ≡ 2
-complete-whole = whole .completeWhole ∙ whole-book .opened
+unfolding written
+complete-whole = whole .completeWhole ∙ ap (λ (b : Book). length (b .transactions)) book-is
 
 memory-whole : memoryAfter memory events ≡ 1 ∷ 5 ∷ 6 ∷ replicate 13 0 ++ 9 ∷ 0 ∷ 0 ∷ 0 ∷ []
-memory-whole = whole .memoryInTurn ∙ whole-book .inTurn
+unfolding written messagesIn ofTransaction dataWrites completionWrite little serialWrites perform serialMemory
+memory-whole = whole .memoryInTurn ∙ ap serialMemory book-is
 
 -- ---- a list that breaks off
 
@@ -175,65 +211,83 @@ holds₂ : Guarantees (outcomeOf (runs specified memory₂ partway .system)) boo
 unfolding computing partway
 holds₂ = applied specified demand3 memory₂ partway refl
 
--- What stands in the book: four sealed frames, of which the first is released, the first and the third are accepted; of
--- six messages with seven bytes three with four are accepted, and one of three transactions is complete. Memory has the
--- data of both transactions in the accepted frames, and the completion of the first.
-record PartBook : Type 0 where
-  opened : length (book₂ .transactions) ≡ 3
-  sealed : length (book₂ .frames) ≡ 4
-  released : releasedCount book₂ ≡ 1
-  first : frameAt book₂ 0 .accepted ≡ true
-  third : frameAt book₂ 2 .accepted ≡ true
-  messages : length (acceptedMessages book₂) ≡ 3
-  bytes : dataBytes (acceptedMessages book₂) ≡ 4
-  complete : completeCount 0 (book₂ .transactions) (acceptedMessages book₂) ≡ 1
-  memory : bookMemory book₂ ≡ 0 ∷ 0 ∷ 9 ∷ 0 ∷ 3 ∷ 4 ∷ 5 ∷ replicate 13 0 ++ 7 ∷ replicate 11 0
-
-part-book : PartBook
-unfolding computing partway
-part-book = record {
-  opened = refl;
-  sealed = refl;
-  released = refl;
-  first = refl;
-  third = refl;
-  messages = refl;
-  bytes = refl;
-  complete = refl;
-  memory = refl;
+-- What the book says of it: of four sealed frames the first is released, the first and the third are accepted; of six
+-- messages with seven bytes three with four are accepted, and one of three transactions is complete.
+written₂ : Book
+written₂ = record {
+  start = memory₂;
+  transactions =
+      record { count = 2; completionAddress = 20; completionValue = 7; unfinishedAtOpening = [] }
+      ∷ record { count = 3; completionAddress = 24; completionValue = 8; unfinishedAtOpening = 0 ∷ [] }
+      ∷ record { count = 1; completionAddress = 28; completionValue = 9; unfinishedAtOpening = 0 ∷ 1 ∷ [] } ∷ [];
+  frames =
+      record { messages = message 0 0 [] ∷ message 1 4 (3 ∷ 4 ∷ 5 ∷ []) ∷ []; acknowledged = true; accepted = true }
+      ∷ record { messages = message 1 7 (6 ∷ []) ∷ []; acknowledged = false; accepted = false }
+      ∷ record { messages = message 0 2 (9 ∷ []) ∷ []; acknowledged = true; accepted = true }
+      ∷ record { messages = message 2 8 (14 ∷ []) ∷ []; acknowledged = false; accepted = false } ∷ [];
+  building = message 1 9 (15 ∷ []) ∷ [];
+  handOuts = frameCopy 0 ∷ frameCopy 1 ∷ frameCopy 2 ∷ [];
+  acksDue = oneFrame 2 ∷ oneFrame 0 ∷ oneFrame 0 ∷ [];
+  expected =
+      expectAccepted 2 (record { messages = 1; bytes = 1; completed = 0 })
+      ∷ expectAccepted 0 (record { messages = 2; bytes = 3; completed = 1 })
+      ∷ expectAgain 0 ∷ [];
 }
+
+book-is₂ : book₂ ≡ written₂
+unfolding computing partway written₂
+book-is₂ = refl
+
+sealed-four : length (book₂ .frames) ≡ 4
+unfolding written₂
+sealed-four = ap (λ (b : Book). length (b .frames)) book-is₂
+
+released-first : releasedCount book₂ ≡ 1
+unfolding written₂ leading
+released-first = ap releasedCount book-is₂
 
 -- Of the answers to the copies of frame 0, which came twice, one is "accepted", and of those to frame 2 too.
 once-first : timesAccepted 0 (answersTo memory₂ partway) (book₂ .expected) ≡ 1
-once-first = holds₂ .acceptedOnce 0 (part-book .first)
+unfolding written₂
+once-first = holds₂ .acceptedOnce 0 (ap (λ (b : Book). frameAt b 0 .accepted) book-is₂)
 
 once-third : timesAccepted 2 (answersTo memory₂ partway) (book₂ .expected) ≡ 1
-once-third = holds₂ .acceptedOnce 2 (part-book .third)
+unfolding written₂
+once-third = holds₂ .acceptedOnce 2 (ap (λ (b : Book). frameAt b 2 .accepted) book-is₂)
 
 -- Of the four sealed frames the card has three left; the one released was accepted.
 three-left : unreleasedAfter memory₂ partway ≡ 3
-three-left = omega (arith, holds₂ .releasedAgrees, part-book .sealed, part-book .released)
+three-left = omega (arith, holds₂ .releasedAgrees, sealed-four, released-first)
 
 released-once : timesAccepted 0 (answersTo memory₂ partway) (book₂ .expected) ≡ 1
-released-once = holds₂ .releasedAccepted 0 (omega (arith, three-left, part-book .sealed))
+released-once = holds₂ .releasedAccepted 0 (omega (arith, three-left, sealed-four))
 
 -- Each transaction has its last message added, and none more.
-none-over : (length (ofTransaction 0 (addedMessages book₂)) ≤ 2) × (length (ofTransaction 1 (addedMessages book₂)) ≤ 3)
-    × (length (ofTransaction 2 (addedMessages book₂)) ≤ 1)
-unfolding computing partway
-none-over = (holds₂ .noneOver 0 (lit< tt), holds₂ .noneOver 1 (lit< tt), holds₂ .noneOver 2 (lit< tt))
+none-over : (i : ℕ) → i < 3
+    → length (ofTransaction i (addedMessages written₂)) ≤ needed (transactionAt written₂ i .count)
+unfolding written₂
+none-over i h =
+    subst (λ (b : Book). length (ofTransaction i (addedMessages b)) ≤ needed (transactionAt b i .count)) book-is₂
+    (holds₂ .noneOver i (subst (λ (b : Book). i < length (b .transactions)) (sym book-is₂) h))
 
 messages-part : messagesSum (answersTo memory₂ partway) ≡ 3
-messages-part = holds₂ .messagesAgree ∙ part-book .messages
+unfolding written₂ messagesIn
+messages-part = holds₂ .messagesAgree ∙ ap (λ (b : Book). length (acceptedMessages b)) book-is₂
 
 bytes-part : bytesSum (answersTo memory₂ partway) ≡ 4
-bytes-part = holds₂ .bytesAgree ∙ part-book .bytes
+unfolding written₂ messagesIn dataBytes
+bytes-part = holds₂ .bytesAgree ∙ ap (λ (b : Book). dataBytes (acceptedMessages b)) book-is₂
 
 complete-part : completeSum (answersTo memory₂ partway) ≡ 1
-complete-part = holds₂ .completeAgree ∙ part-book .complete
+unfolding written₂ messagesIn ofTransaction allMessagesIn needed completeCount
+complete-part =
+    holds₂ .completeAgree ∙ ap (λ (b : Book). completeCount 0 (b .transactions) (acceptedMessages b)) book-is₂
 
+-- the data of both transactions in the accepted frames, and the completion of the first
 memory-part : memoryAfter memory₂ partway ≡ 0 ∷ 0 ∷ 9 ∷ 0 ∷ 3 ∷ 4 ∷ 5 ∷ replicate 13 0 ++ 7 ∷ replicate 11 0
-memory-part = holds₂ .memoryAgrees ∙ part-book .memory
+unfolding written₂ messagesIn ofTransaction allMessagesIn needed dataWrites completionWrite little writesOf bookWrites
+    perform bookMemory
+memory-part = holds₂ .memoryAgrees ∙ ap bookMemory book-is₂
 
 -- ---- why writes of transactions that are open together must not meet
 
