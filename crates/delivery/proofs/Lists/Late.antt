@@ -1,9 +1,9 @@
 -- The limits of lateness, at their edge: after n rounds frame 0 comes once more, or its acknowledgement does, n numbers
 -- late. Up to 32,768 the list meets the premises, and demand 3 gives that the frame is answered "again", counted once
--- and not written again. At 32,769 the premise fails; the copy's number then lies ahead of the host's window, and the
--- host refuses it with 6. Assumes nothing.
+-- and not written again, and released once. At 32,769 the premise fails; the copy's number then lies ahead of the
+-- host's window, and the host refuses it with 6; the card does nothing about the acknowledgement. Assumes nothing.
 use Prim.Native.Nat.{ℕ, zero, suc, _+_, _-_, _≤_, _<_}
-use native.Mathlib.Nat.{add-zero}
+use native.Mathlib.Nat.{add-zero, mod-lt, mod-eq-of-lt}
 use native.Mathlib.Omega.{arith}
 use mathlib.Core.Path.{_≡_, refl, sym, ap, _∙_, subst}
 use mathlib.Core.Logic.{_⊎_, inl, inr}
@@ -13,8 +13,10 @@ use mathlib.Core.Option.{some}
 use borrow.Author.Tests.{le-leb, lt-leb}
 use lib.Dec.{lit≤, lit<}
 use lib.ListN.{length, getD, getElem?}
-use Rattle.seq.specs.Ring.{distance, frameSpace}
+use Rattle.seq.specs.Ring.{distance, advance, frameSpace}
 use Rattle.seq.proofs.Ring.{distance-behind}
+use Rattle.bitmap.specs.Marks.{mark, leading, trailingOnes, marksOf}
+use Rattle.bitmap.proofs.Marks.{mark-marksOf, leading-fails}
 use Rattle.host.specs.Host.{Received, unchanged, refused, receiveOf}
 use Rattle.host.proofs.Receiving.{by-number-ahead}
 use Rattle.octets.specs.Octets.{little}
@@ -90,13 +92,16 @@ use Rattle.delivery.proofs.Lists.Check.{slots₀}
 use Rattle.delivery.proofs.Book.Along.{still-at, last, last-is, last-plain}
 use Rattle.delivery.proofs.Book.Writes.{perform-append}
 use Rattle.delivery.proofs.Demand.{demand3}
-use Rattle.delivery.proofs.Lists.Entered.{reading-entered}
+use Rattle.delivery.proofs.Card.CardFor.{unreleased-is}
+use Rattle.delivery.proofs.Card.CardSteps.{read-ack}
+use Rattle.delivery.proofs.Lists.Entered.{ack-at, reading-entered}
 use Rattle.delivery.proofs.Lists.NoBytes.{NoBytes, no-bytes}
 use Rattle.delivery.proofs.Lists.Rounds.{
   message,
   done,
   past,
   past-length,
+  past-at,
   past-done,
   past-leads,
   past-where,
@@ -432,26 +437,69 @@ ack-in-time n h few = go (whole specified specified-in-turn true (Through n) n (
 ack-at-limit : AckAgain 32768
 ack-at-limit = ack-in-time 32768 (lit< tt) (lit≤ tt)
 
-ack-too-late : (n : ℕ) → 32768 < n → n ≤ 65535
-    → notTooLate (emptyBook roundMemory) (ran (lateAck n) .observations) ≡ false
-unfolding lateAck typed allTyped run bookFrom notTooLate inTime ackInTime messagesIn step byCard
-ack-too-late n far few = whole specified specified-in-turn false (λ w b. Unit {0}) n (reads 0 ∷ []) leads .timing
+-- ---- an acknowledgement too late
+
+-- With nothing left to release there is nothing that a range could cover, however its numbers lie.
+nothing-left : (w : SendWindow) (start count : ℕ) → unreleased w ≡ 0 → mark (w .acked) 0 ≡ false
+    → w .base .0 < frameSpace → unreleased (acknowledging w start count) ≡ 0
+unfolding acknowledging releasing acknowledgedBy advance trailingOnes
+nothing-left w start count none clear fits =
+    let unmarked : mark (marksOf 64 (acknowledgedBy w start count)) 0 ≡ false =
+    mark-marksOf 64 (acknowledgedBy w start count) 0 (lit< tt) ∙ rw (clear, none) refl in
+    let still : leading (mark (marksOf 64 (acknowledgedBy w start count))) 64 ≡ 0 =
+    omega (arith, leading-fails (mark (marksOf 64 (acknowledgedBy w start count))) 64 0 unmarked) in
+    rw (still, add-zero (w .base .0), mod-eq-of-lt fits) none
+
+-- The premise fails, and the card does nothing about it.
+record AckIgnored (n : ℕ) : Type 0 where
+  premiseFails : notTooLate (emptyBook roundMemory) (ran (lateAck n) .observations) ≡ false
+  noneLeft : unreleased (ran (lateAck n) .system .card .window) ≡ 0
+
+abbrev NoneLeft : System → Book → Type 0
+NoneLeft w b = unreleased (w .card .window) ≡ 0
+
+late-ack-leads : (n : ℕ) → 32768 < n → (ys : List Expected)
+    → Leading specified specified-in-turn false NoneLeft (reads 0 ∷ [])
+    (page n [] [] [] (roundCopies n) (roundAcks n) ys)
+unfolding typed allTyped run bookFrom notTooLate inTime ackInTime messagesIn step byCard acknowledged
+late-ack-leads n far ys w f = record {
+  fitting = refl;
+  timing = rw (first-ack n h, lt-leb (releasedCount here) (0 + ackLateMost) (omega (arith, released n h ys))) refl;
+  allowed =
+      subst WritesAllowed
+      (sym (reading-entered 2 1 cardFits hostFits w here f 0 (oneFrame 0) (first-ack n h) ∙ ack-entered n h ys))
+      (page-allowed n [] [] (fitting-none n) (bares []) _ _ _);
+  reached =
+      rw (
+        ack-at 2 1 cardFits hostFits w here f 0 (oneFrame 0) (first-ack n h),
+        read-ack 2 1 cardFits hostFits w here f 0 1 (lit< tt) (lit< tt) (lit< tt),
+      )
+      (nothing-left (w .card .window) 0 1 none clear (rw (f .cardFor .lowIs) (mod-lt (releasedCount here) (lit< tt))));
+}
   where
     h : 0 < n
     h = omega arith
 
-    leads : (ys : List Expected)
-        → Leading specified specified-in-turn false (λ w b. Unit {0}) (reads 0 ∷ [])
-        (page n [] [] [] (roundCopies n) (roundAcks n) ys)
-    leads ys w f = record {
-      fitting = refl;
-      timing =
-          rw (first-ack n h, lt-leb (releasedCount (now n h ys)) (0 + ackLateMost) (omega (arith, released n h ys)))
-          refl;
-      allowed =
-          subst WritesAllowed
-          (sym (reading-entered 2 1 cardFits hostFits w (now n h ys) f 0 (oneFrame 0) (first-ack n h)
-          ∙ ack-entered n h ys))
-          (page-allowed n [] [] (fitting-none n) (bares []) _ _ _);
-      reached = tt;
-    }
+    here : Book
+    here = now n h ys
+
+    none : unreleased (w .card .window) ≡ 0
+    none =
+        omega (
+          arith,
+          unreleased-is (w .card) (w .slots) here (f .cardFor) (f .sound),
+          released n h ys,
+          past-length 0 n [],
+        )
+
+    clear : mark (w .card .window .acked) 0 ≡ false
+    clear =
+        f .cardFor .marksAre 0
+        ∙ ap (λ (x : FrameRecord). x .acknowledged)
+        (past-at 0 n 0 (releasedCount here + 0) [] (omega (arith, released n h ys)))
+
+ack-too-late : (n : ℕ) → 32768 < n → AckIgnored n
+unfolding lateAck
+ack-too-late n far =
+    let l = whole specified specified-in-turn false NoneLeft n (reads 0 ∷ []) (late-ack-leads n far) in
+    record { premiseFails = l .timing; noneLeft = l .reached }
