@@ -1,6 +1,7 @@
 //! The card's end of a pair: its opening, the six steps and the two calls that tell
 //! why nothing was shown or chosen. Frames and transactions are counted without
-//! wrapping; a number on the wire is a count's low 16 or 32 bits.
+//! wrapping; a number on the wire is a count's low 16 or 32 bits. Any state gets an answer,
+//! also one that no run reaches and that a test puts together.
 
 use crate::host::Terms;
 use crate::refusal;
@@ -8,20 +9,17 @@ use crate::windows::Windows;
 use crate::wire::{
     self, FRAME_HEADER, FrameHeader, HAS_MESSAGES, LONGEST_FRAME, MESSAGE_HEADER, Message, TRAILING,
 };
-use std::collections::VecDeque;
+use std::collections::{BTreeMap, BTreeSet};
 use std::ops::Range;
+
+mod words;
+
+pub use words::CARD_WORDS;
 
 /// Slots of the lent buffer (C2).
 pub const SLOTS: usize = 64;
 /// The smallest frame limit: room for one message without data (N26).
 pub const LEAST_LIMIT: usize = FRAME_HEADER + MESSAGE_HEADER;
-
-/// A frame that was sealed and not released.
-#[derive(Clone, Copy, Debug, PartialEq, Eq)]
-struct Sealed {
-    length: usize,
-    acknowledged: bool,
-}
 
 /// The frame being built, once it has a message.
 #[derive(Clone, Copy, Debug, PartialEq, Eq)]
@@ -31,7 +29,7 @@ struct Building {
     last_header: usize,
 }
 
-/// A transaction from the lowest unfinished one on.
+/// An opened transaction.
 #[derive(Clone, Copy, Debug, PartialEq, Eq)]
 struct Transaction {
     terms: Terms,
@@ -42,8 +40,13 @@ struct Transaction {
 }
 
 impl Transaction {
-    fn is_filled(&self) -> bool {
-        self.added == self.terms.messages()
+    fn wants_messages(&self) -> bool {
+        self.added < self.terms.messages()
+    }
+
+    /// All its messages are added and lie in frames below this one (C18).
+    fn is_finished(&self, released: u64) -> bool {
+        self.added == self.terms.messages() && self.last_frame < released
     }
 }
 
@@ -56,13 +59,21 @@ pub struct Card {
     windows: Windows,
     /// The lowest frame not released.
     released: u64,
-    /// The sealed frames from there on.
-    sealed: VecDeque<Sealed>,
+    /// How many are sealed from there on.
+    sealed: u64,
+    /// Acknowledged frames that wait for a lower one to be released.
+    acknowledged: BTreeSet<u64>,
+    /// The length of the frame that was last sealed in a slot.
+    lengths: BTreeMap<usize, usize>,
     building: Option<Building>,
     /// The lowest transaction not finished.
-    finished: u64,
-    /// The opened transactions from there on; finished ones may be among them.
-    transactions: VecDeque<Transaction>,
+    lowest: u64,
+    /// How many are opened from there on; finished ones may be among them.
+    opened: u64,
+    /// Finished transactions that wait for a lower one.
+    finished: BTreeSet<u64>,
+    /// By their number modulo the window's size.
+    transactions: BTreeMap<u64, Transaction>,
 }
 
 impl Card {
@@ -89,10 +100,14 @@ impl Card {
             limit,
             windows: Windows::RULES,
             released: frame.into(),
-            sealed: VecDeque::new(),
+            sealed: 0,
+            acknowledged: BTreeSet::new(),
+            lengths: BTreeMap::new(),
             building: None,
-            finished: transaction.into(),
-            transactions: VecDeque::new(),
+            lowest: transaction.into(),
+            opened: 0,
+            finished: BTreeSet::new(),
+            transactions: BTreeMap::new(),
         }
     }
 
@@ -109,11 +124,11 @@ impl Card {
         completion_value: u32,
     ) -> Result<u32, u8> {
         // Finished ones above an unfinished one still take room (N20).
-        if self.transactions.len() as i64 >= self.windows.transactions {
+        if self.opened >= self.transaction_window() {
             return Err(refusal::TRANSACTIONS_FULL);
         }
-        let number = (self.finished + self.transactions.len() as u64) as u32;
-        self.transactions.push_back(Transaction {
+        let transaction = self.lowest + self.opened;
+        let entry = Transaction {
             terms: Terms {
                 count,
                 completion_address,
@@ -121,8 +136,10 @@ impl Card {
             },
             added: 0,
             last_frame: 0,
-        });
-        Ok(number)
+        };
+        self.transactions.insert(self.place(transaction), entry);
+        self.opened += 1;
+        Ok(transaction as u32)
     }
 
     /// Adds a message to the frame being built, inside its slot. Refusals in order:
@@ -135,17 +152,16 @@ impl Card {
         slots: &mut [u8],
     ) -> Result<(), u8> {
         self.check(slots)?;
-        let index = self
-            .index_of(transaction)
-            .ok_or(refusal::TRANSACTION_DONE)?;
-        let Transaction { terms, .. } = self.transactions[index];
-        if self.transactions[index].is_filled() {
+        let place = self.place_of(transaction);
+        let place = place.ok_or(refusal::TRANSACTION_DONE)?;
+        let Transaction { terms, .. } = self.transactions[&place];
+        if !self.transactions[&place].wants_messages() {
             return Err(refusal::TRANSACTION_DONE);
         }
         if terms.count == 0 && !data.is_empty() {
             return Err(refusal::DATA_FOR_BARE);
         }
-        if self.sealed.len() as i64 >= self.windows.frames {
+        if self.sealed >= self.frame_window() {
             return Err(refusal::SLOTS_FULL);
         }
         let start = self
@@ -166,7 +182,10 @@ impl Card {
                 length,
                 last_header,
             }) => {
-                slot[last_header + TRAILING] = 1;
+                // A state that no run reaches may have it outside the slot.
+                if let Some(trailing) = slot.get_mut(last_header + TRAILING) {
+                    *trailing = 1;
+                }
                 slot[length..start].fill(0);
             }
         }
@@ -185,8 +204,12 @@ impl Card {
             length: end,
             last_header: start,
         });
-        self.transactions[index].added += 1;
-        self.transactions[index].last_frame = frame;
+        let entry = Transaction {
+            added: self.transactions[&place].added + 1,
+            last_frame: frame,
+            terms,
+        };
+        self.transactions.insert(place, entry);
         Ok(())
     }
 
@@ -194,35 +217,47 @@ impl Card {
     pub fn seal(&mut self, slots: &[u8]) -> Result<u16, u8> {
         self.check(slots)?;
         let Building { length, .. } = self.building.ok_or(refusal::NOTHING_TO_SEAL)?;
-        let number = self.next_frame() as u16;
+        let frame = self.next_frame();
         self.building = None;
-        self.sealed.push_back(Sealed {
-            length,
-            acknowledged: false,
-        });
-        Ok(number)
+        self.lengths.insert(slot_of(frame), length);
+        self.sealed += 1;
+        Ok(frame as u16)
     }
 
     /// Takes in the acknowledgements of an arriving frame, or gives the first refusal
     /// of 1 to 5 (O4). Its messages are measured and otherwise ignored (C11).
     pub fn read(&mut self, frame: &[u8]) -> Result<(), u8> {
         let frame = wire::read(frame, Some((self.own, self.peer)))?;
-        for number in wire::acknowledged(&frame.header) {
-            if let Some(index) = self.sealed_index(number) {
-                self.sealed[index].acknowledged = true;
-            }
-        }
-        while self.sealed.front().is_some_and(|frame| frame.acknowledged) {
-            self.sealed.pop_front();
+        // Only what is sealed can be acknowledged, and only as many have a mark for it as
+        // the window has frames.
+        let end = self.next_frame();
+        let marked = self.released + self.frame_window();
+        let numbers = wire::acknowledged(&frame.header);
+        let covered: Vec<u64> = numbers.filter_map(|n| self.sealed_frame(n)).collect();
+        self.acknowledged.extend(covered);
+        self.acknowledged.retain(|f| *f < end && *f < marked);
+        while self.acknowledged.remove(&self.released) {
             self.released += 1;
+            self.sealed -= 1;
         }
-        let released = self.released;
-        let is_finished = |entry: &Transaction| entry.is_filled() && entry.last_frame < released;
-        while self.transactions.front().is_some_and(is_finished) {
-            self.transactions.pop_front();
-            self.finished += 1;
-        }
+        self.finish();
         Ok(())
+    }
+
+    /// Finds the finished ones among the opened, and passes those that no unfinished one
+    /// is below.
+    fn finish(&mut self) {
+        let end = self.lowest + self.opened;
+        let window = self.lowest..end.min(self.lowest + self.transaction_window());
+        let finished: Vec<u64> = window
+            .filter(|t| self.transactions[&self.place(*t)].is_finished(self.released))
+            .collect();
+        self.finished.extend(finished);
+        self.finished.retain(|t| *t < end);
+        while self.finished.remove(&self.lowest) {
+            self.lowest += 1;
+            self.opened -= 1;
+        }
     }
 
     /// A held frame as a part of its slot, or an empty part (C22).
@@ -253,7 +288,7 @@ impl Card {
 
     /// How many frames are sealed and not released.
     pub fn unreleased(&self) -> usize {
-        self.sealed.len()
+        self.sealed as usize
     }
 
     /// The number of the lowest frame not released.
@@ -268,16 +303,15 @@ impl Card {
 
     /// The numbers of the transactions that want a message.
     pub fn unfilled(&self) -> impl Iterator<Item = u32> {
-        let numbered = (self.finished..).zip(&self.transactions);
-        numbered
-            .filter(|(_, entry)| !entry.is_filled())
-            .map(|(count, _)| count as u32)
+        (self.lowest..self.lowest + self.opened)
+            .filter(|t| self.transactions[&self.place(*t)].wants_messages())
+            .map(|t| t as u32)
     }
 
     fn to_show(&self, number: u16, slots: &[u8]) -> Result<Range<usize>, u8> {
         self.check(slots)?;
-        let index = self.sealed_index(number).ok_or(refusal::NOTHING_TO_SHOW)?;
-        self.held(index).ok_or(refusal::NOTHING_TO_SHOW)
+        let frame = self.sealed_frame(number).ok_or(refusal::NOTHING_TO_SHOW)?;
+        self.held(frame).ok_or(refusal::NOTHING_TO_SHOW)
     }
 
     fn to_choose(&self, acknowledgement: &[u8], slots: &[u8]) -> Result<Chosen, u8> {
@@ -285,21 +319,26 @@ impl Card {
         if acknowledgement.len() == FRAME_HEADER {
             return Ok(Chosen::Lent);
         }
-        (0..self.sealed.len())
-            .find_map(|index| self.held(index))
+        (self.released..self.next_frame())
+            .find_map(|frame| self.held(frame))
             .map(Chosen::Slot)
             .ok_or(refusal::NOTHING_TO_SHOW)
     }
 
     /// Where the bytes of an unreleased frame stand, if it is held. One that is
-    /// acknowledged and waits for another to be released is not (C17).
-    fn held(&self, index: usize) -> Option<Range<usize>> {
-        let Sealed {
-            length,
-            acknowledged,
-        } = self.sealed[index];
-        let start = self.slot(self.released + index as u64).start;
-        (!acknowledged).then_some(start..start + length)
+    /// acknowledged and waits for another to be released is not (C17). A length that goes
+    /// past the buffer's end, which no run gives, is none.
+    fn held(&self, frame: u64) -> Option<Range<usize>> {
+        let slot = slot_of(frame);
+        let length = self.lengths.get(&slot).copied().unwrap_or(0);
+        let start = slot * self.limit;
+        let end = start + length;
+        let part = if end <= SLOTS * self.limit {
+            start..end
+        } else {
+            start..start
+        };
+        (!self.acknowledged.contains(&frame)).then_some(part)
     }
 
     /// Refusal 26, for L or for the lent buffer (N26).
@@ -313,12 +352,20 @@ impl Card {
     }
 
     fn next_frame(&self) -> u64 {
-        self.released + self.sealed.len() as u64
+        self.released + self.sealed
     }
 
     fn slot(&self, frame: u64) -> Range<usize> {
-        let start = frame as usize % SLOTS * self.limit;
+        let start = slot_of(frame) * self.limit;
         start..start + self.limit
+    }
+
+    fn frame_window(&self) -> u64 {
+        self.windows.frames as u64
+    }
+
+    fn transaction_window(&self) -> u64 {
+        self.windows.transactions as u64
     }
 
     fn frame_header(&self, frame: u64) -> FrameHeader {
@@ -333,15 +380,26 @@ impl Card {
     }
 
     /// Which of the sealed and unreleased frames has this number.
-    fn sealed_index(&self, number: u16) -> Option<usize> {
-        (0..self.sealed.len()).find(|index| (self.released + *index as u64) as u16 == number)
+    fn sealed_frame(&self, number: u16) -> Option<u64> {
+        let ahead = (i64::from(number) - self.released as i64).rem_euclid(1 << 16) as u64;
+        (ahead < self.sealed).then_some(self.released + ahead)
     }
 
-    /// Which of the transactions from the lowest unfinished one on has this number.
-    fn index_of(&self, transaction: u32) -> Option<usize> {
-        (0..self.transactions.len())
-            .find(|index| (self.finished + *index as u64) as u32 == transaction)
+    /// Where an opened transaction of this number, from the lowest unfinished one on, is
+    /// kept.
+    fn place_of(&self, number: u32) -> Option<u64> {
+        let ahead = (i64::from(number) - self.lowest as i64).rem_euclid(1 << 32) as u64;
+        (ahead < self.opened).then_some(self.place(self.lowest + ahead))
     }
+
+    fn place(&self, transaction: u64) -> u64 {
+        transaction % self.transaction_window()
+    }
+}
+
+/// A frame's number modulo 64 chooses its slot (C2).
+fn slot_of(frame: u64) -> usize {
+    frame as usize % SLOTS
 }
 
 /// What a choice comes to.

@@ -1,12 +1,17 @@
 //! The charging host's end of a pair: what it keeps, how it answers an arriving
 //! frame and which acknowledgement an answer calls for. A frame is judged on a copy
-//! of state and memory, which takes their place only if no message is refused.
+//! of state and memory, which takes their place only if no message is refused. Any state
+//! gets an answer, also one that no run reaches and that a test puts together.
 
 use crate::refusal;
 use crate::windows::Windows;
 use crate::wire::{self, FRAME_HEADER, Message};
 use std::collections::{BTreeMap, BTreeSet};
 use std::fmt;
+
+mod words;
+
+pub use words::HOST_WORDS;
 
 /// What all messages of a transaction have to say alike (N9).
 #[derive(Clone, Copy, Debug, PartialEq, Eq)]
@@ -229,21 +234,28 @@ impl Host {
         let completion = completion.ok_or(refusal::COMPLETION_OUTSIDE)?;
 
         memory[data].copy_from_slice(message.data);
-        let received = 1 + open.map_or(0, |open| open.received);
+        // The count has 16 bits, and one of 0 is no transaction's: no run gets past its end.
+        let received = open.map_or(0, |open| open.received).wrapping_add(1);
         let complete = received == terms.messages();
+        self.open.remove(&transaction);
         if complete {
             memory[completion].copy_from_slice(&terms.completion_value.to_le_bytes());
             self.close(transaction);
-        } else {
+        } else if received > 0 {
             self.open.insert(transaction, Open { terms, received });
         }
         Ok(complete)
     }
 
     fn close(&mut self, transaction: u32) {
-        self.open.remove(&transaction);
         self.closed.insert(transaction);
         while self.closed.remove(&self.lowest) {
+            // What a transaction leaves, which no run's does, is where the one a window
+            // further on is kept.
+            if let Some(left) = self.open.remove(&self.lowest) {
+                let next = self.lowest.wrapping_add(self.windows.transactions as u32);
+                self.open.insert(next, left);
+            }
             self.lowest = self.lowest.wrapping_add(1);
         }
     }

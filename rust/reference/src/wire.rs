@@ -155,9 +155,13 @@ pub fn follows(trailing: u8) -> bool {
 }
 
 /// Where the header after data that ends at `data_end` starts (W12). The
-/// multiples are counted from the end of the frame header, not from 0.
+/// multiples are counted from the end of the frame header, not from 0, and the first
+/// header stands there even behind less.
 pub fn next_header(data_end: usize) -> usize {
-    FRAME_HEADER + (data_end - FRAME_HEADER).next_multiple_of(ALIGNMENT)
+    FRAME_HEADER
+        + data_end
+            .saturating_sub(FRAME_HEADER)
+            .next_multiple_of(ALIGNMENT)
 }
 
 /// Reads a frame's layout, or gives the first refusal of 1, 2, 4 and 5 (K2).
