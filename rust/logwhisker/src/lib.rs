@@ -1,103 +1,47 @@
-//! Safe functions over the proved static libraries: a frame's layout and the class
-//! of a refusal number, one number a call, and a host that is fed many frames in one.
-//! Any bytes may be lent; the declarations below are checked against the libraries
-//! by the tests alone.
+//! Both ends of a DG/RDMA pair over the proved static library: a charging [`Host`], a
+//! [`Card`], the layout of a frame and the refusals. Nothing is allocated and nothing is
+//! kept between calls but the words that each end owns; what a call reads or writes is
+//! lent to it.
+//!
+//! ```
+//! use logwhisker::{Answer, Card, Chosen, Host};
+//!
+//! let mut slots = vec![0; 64 * 1_500];
+//! let mut memory = vec![0; 4_096];
+//! let mut card = Card::open(2, 1, 1_500, &slots)?;
+//! let mut host = Host::open(1, 2)?;
+//!
+//! let transaction = card.open_transaction(1, 64, 7)?;
+//! card.add(&mut slots, transaction, 0, b"units")?;
+//! card.seal(&slots)?;
+//! let Chosen::Frame(frame) = card.choose(&slots, &[])? else { unreachable!() };
+//! let answer = host.receive(frame, &mut memory);
+//! assert!(matches!(answer, Answer::Accepted { completed: 1, .. }));
+//! if let Some(acknowledgement) = host.acknowledge(&answer, 0) {
+//!     card.read(&acknowledgement)?;
+//! }
+//! # Ok::<(), logwhisker::Refusal>(())
+//! ```
 
-mod ffi {
-    // A slice crosses the boundary as a pointer and then a length.
-    unsafe extern "C" {
-        pub fn lw_layout_refusal(frame: *const u8, length: usize) -> u32;
-        pub fn lw_destination(frame: *const u8, length: usize) -> u32;
-        pub fn lw_source(frame: *const u8, length: usize) -> u32;
-        pub fn lw_frame_number(frame: *const u8, length: usize) -> u32;
-        pub fn lw_ack_start(frame: *const u8, length: usize) -> u32;
-        pub fn lw_ack_count(frame: *const u8, length: usize) -> u32;
-        pub fn lw_flags(frame: *const u8, length: usize) -> u32;
-        pub fn lw_message_count(frame: *const u8, length: usize) -> u32;
-        pub fn lw_data_bytes(frame: *const u8, length: usize) -> u32;
-        // Takes a number and answers one, so nothing can go wrong in calling it.
-        pub safe fn lw_refusal_class(number: u32) -> u32;
-        pub fn lw_host_run(
-            frames: *const u8,
-            frames_length: usize,
-            size: usize,
-            memory: *mut u8,
-            memory_length: usize,
-        ) -> u64;
-    }
-}
+#![deny(unsafe_code)]
 
-/// Calls a function that only reads the lent frame.
-fn ask(function: unsafe extern "C" fn(*const u8, usize) -> u32, frame: &[u8]) -> u32 {
-    // SAFETY: pointer and length are those of a slice, which stays borrowed during
-    // the call, and the library reads nothing else and keeps neither of them.
-    unsafe { function(frame.as_ptr(), frame.len()) }
-}
+mod card;
+mod host;
+mod layout;
+pub mod raw;
+mod refusal;
 
-/// The first refusal of 1, 2, 4 and 5 that applies to the layout, or 0 for none.
-pub fn layout_refusal(frame: &[u8]) -> u32 {
-    ask(ffi::lw_layout_refusal, frame)
-}
+pub use card::{Card, Chosen};
+pub use host::{Answer, Description, Host, OpenTransaction};
+pub use layout::{
+    Layout, ack_count, ack_start, data_bytes, destination, flags, frame_number, layout_refusal,
+    message_count, source,
+};
+pub use refusal::{Class, Refusal, refusal_class};
 
-/// The destination ID, or 0 if the layout is refused.
-pub fn destination(frame: &[u8]) -> u32 {
-    ask(ffi::lw_destination, frame)
-}
-
-/// The source ID, or 0 if the layout is refused.
-pub fn source(frame: &[u8]) -> u32 {
-    ask(ffi::lw_source, frame)
-}
-
-/// The frame number, or 0 if the layout is refused.
-pub fn frame_number(frame: &[u8]) -> u32 {
-    ask(ffi::lw_frame_number, frame)
-}
-
-/// ACKStart as it stands, also with ACKCount 0, or 0 if the layout is refused.
-pub fn ack_start(frame: &[u8]) -> u32 {
-    ask(ffi::lw_ack_start, frame)
-}
-
-/// ACKCount, or 0 if the layout is refused.
-pub fn ack_count(frame: &[u8]) -> u32 {
-    ask(ffi::lw_ack_count, frame)
-}
-
-/// The flags, or 0 if the layout is refused.
-pub fn flags(frame: &[u8]) -> u32 {
-    ask(ffi::lw_flags, frame)
-}
-
-/// The number of messages, or 0 if the layout is refused or the flag is clear.
-pub fn message_count(frame: &[u8]) -> u32 {
-    ask(ffi::lw_message_count, frame)
-}
-
-/// The sum of the data lengths, or 0 if the layout is refused or the flag is clear.
-pub fn data_bytes(frame: &[u8]) -> u32 {
-    ask(ffi::lw_data_bytes, frame)
-}
-
-/// The class of a number: 0 none, 1 wire, 2 message, 3 caller, 4 card.
-pub fn refusal_class(number: u32) -> u32 {
-    ffi::lw_refusal_class(number)
-}
-
-/// Lets a fresh host of own ID 1 and peer 2 receive the frames of `size` bytes each
-/// that stand one behind another; a rest shorter than that is ignored, and a size of 0
-/// receives nothing. Writes what they say into `memory` and answers the sum of the
-/// data bytes of the accepted ones, modulo 2^64.
-pub fn host_run(frames: &[u8], size: usize, memory: &mut [u8]) -> u64 {
-    // SAFETY: both pairs of pointer and length are those of slices, which stay
-    // borrowed during the call, the memory for writing; none of them is kept.
-    unsafe {
-        ffi::lw_host_run(
-            frames.as_ptr(),
-            frames.len(),
-            size,
-            memory.as_mut_ptr(),
-            memory.len(),
-        )
-    }
-}
+/// Bytes of a frame header, and of an acknowledgement.
+pub const FRAME_HEADER: usize = 10;
+/// The longest frame that is read.
+pub const LONGEST_FRAME: usize = 9_000;
+/// Slots of a card's buffer; it has this many times the frame limit in bytes.
+pub const SLOTS: usize = 64;

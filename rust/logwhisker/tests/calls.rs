@@ -1,4 +1,4 @@
-//! Runs the proved program `calls` on scripts and compares every answer with the
+//! Runs the C program `calls`, which is built over the installed header, on scripts and compares every answer with the
 //! independent one: both ends' answers, the frames handed out with their place in the
 //! slots, and digests of slots and memory. `LW_SEED` and `LW_SCRIPTS` choose the first
 //! seed and the number of scripts of each kind, `LW_CALLS` another program.
@@ -112,17 +112,39 @@ fn numbers_that_come_round() {
     let last = |number: u32| answers.lines().any(|line| line == format!("f {number}"));
     assert!(last(65_535) && last(0));
     let seed = number_from_env("LW_SEED", 1);
-    let run = simulate(&Sound, seed, Profile::long(66_000), LONG_CALLS, true, Care::LongList);
+    let run = simulate(
+        &Sound,
+        seed,
+        Profile::long(66_000),
+        LONG_CALLS,
+        true,
+        Care::LongList,
+    );
     let answers = assert_same(of_list(&run.setting, &run.calls, 1_000).as_bytes());
     assert!(answers.lines().any(|line| line == "f 65535"));
 }
 
 #[test]
 fn endings_and_long_lines() {
-    for input in [&b""[..], b"\n", b"seal", b"seal\n", b"seal\r\n", b"\0\n\xff", b"\n\nseal\n\n", b"class 5"] {
+    for input in [
+        &b""[..],
+        b"\n",
+        b"seal",
+        b"seal\n",
+        b"seal\r\n",
+        b"\0\n\xff",
+        b"\n\nseal\n\n",
+        b"class 5",
+    ] {
         assert_same(input);
     }
-    for digits in [LONGEST - 8, LONGEST - 7, LONGEST - 6, LONGEST + 1, 3 * LONGEST] {
+    for digits in [
+        LONGEST - 8,
+        LONGEST - 7,
+        LONGEST - 6,
+        LONGEST + 1,
+        3 * LONGEST,
+    ] {
         let mut input = b"layout ".to_vec();
         input.resize(7 + digits, b'0');
         assert_same(&input);
@@ -140,14 +162,23 @@ fn byte_by_byte() {
 /// What demand 3 lets pass is told apart by the answers.
 #[test]
 fn faults_that_demand_3_lets_pass_show_in_the_answers() {
-    let scripts: Vec<Vec<u8>> = (0..4).map(wild).chain((0..60).map(list)).chain([round()]).collect();
+    let scripts: Vec<Vec<u8>> = (0..4)
+        .map(wild)
+        .chain((0..60).map(list))
+        .chain([round()])
+        .collect();
     let answers: Vec<String> = scripts.iter().map(|script| output_of(script)).collect();
-    let passing = Fault::ALL.iter().filter(|fault| fault.found_by() == FoundBy::Comparison);
+    let passing = Fault::ALL
+        .iter()
+        .filter(|fault| fault.found_by() == FoundBy::Comparison);
     let mut tried = 0;
     for fault in passing {
         let ends = || Faulty(Some(*fault));
         let mut pairs = scripts.iter().zip(&answers);
-        assert!(pairs.any(|(script, answer)| calls::output(ends(), script) != *answer), "{fault:?}");
+        assert!(
+            pairs.any(|(script, answer)| calls::output(ends(), script) != *answer),
+            "{fault:?}"
+        );
         tried += 1;
     }
     assert!(tried > 5);

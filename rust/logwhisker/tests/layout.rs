@@ -7,6 +7,7 @@ mod inputs;
 
 use faulty::Fault;
 use inputs::{Input, Known, MOST_MESSAGES, Settings};
+use logwhisker::{Layout, Refusal};
 use reference::cases::WHOLE_CASE;
 use reference::refusal::{self, Class};
 use reference::wire;
@@ -259,7 +260,12 @@ fn class_agrees_with_the_reference() {
     let mut met = [0; 5];
     for number in 0..=100_000 {
         let class = refusal::class(number);
-        assert_eq!(logwhisker::refusal_class(number), class as u32, "{number}");
+        assert_eq!(logwhisker::raw::refusal_class(number), class as u32);
+        assert_eq!(
+            logwhisker::refusal_class(number) as u32,
+            class as u32,
+            "{number}"
+        );
         met[class as usize] += 1;
     }
     assert_eq!(met, [100_001 - 22, 6, 6, 2, 8]);
@@ -277,7 +283,43 @@ fn class_agrees_with_the_reference() {
     }
 }
 
+/// Names, numbers and classes of the wrapper are those of the rules.
+#[test]
+fn refusals_by_name() {
+    let classed = (0..1_000).filter(|number| refusal::class(*number) != Class::None);
+    let named = Refusal::ALL.iter().map(|refusal| refusal.number());
+    assert!(named.eq(classed));
+    for refusal in Refusal::ALL {
+        let class = refusal::class(refusal.number());
+        assert_eq!(refusal.class() as u32, class as u32, "{refusal}");
+        assert_eq!(Some(refusal.to_string().as_str()), refusal.name());
+    }
+    let shown = [Refusal::PAST_FRAME_END, Refusal::NOT_HELD].map(|refusal| refusal.to_string());
+    assert_eq!(shown, ["PAST_FRAME_END", "NOT_HELD"]);
+    let other = Refusal::from_number(19).expect("only 0 is none");
+    assert_eq!(
+        (other.name(), other.to_string().as_str()),
+        (None, "refusal 19")
+    );
+    assert_eq!(Refusal::from_number(0), None);
+}
+
+#[test]
+fn layout_as_one_value() {
+    let layout = Layout::of(&WHOLE_CASE).expect("it can be read");
+    assert_eq!(
+        (layout.destination, layout.source, layout.number),
+        (1, 2, 0)
+    );
+    assert_eq!(
+        (layout.ack_start, layout.ack_count, layout.flags),
+        (0, 0, 1)
+    );
+    assert_eq!((layout.messages, layout.data_bytes), (1, 4));
+    assert_eq!(Layout::of(&WHOLE_CASE[..37]), Err(Refusal::PAST_FRAME_END));
+}
+
 fn check_class_none(number: u32) {
     assert_eq!(refusal::class(number), Class::None, "{number}");
-    assert_eq!(logwhisker::refusal_class(number), 0, "{number}");
+    assert_eq!(logwhisker::raw::refusal_class(number), 0, "{number}");
 }

@@ -164,7 +164,10 @@ fn reader_that_waits() {
         got.extend(&piece[..n]);
         thread::sleep(Duration::from_micros(200));
     }
-    writer.join().expect("the writer does not panic").expect("all is read");
+    writer
+        .join()
+        .expect("the writer does not panic")
+        .expect("all is read");
     assert_eq!(text(&got), whole);
     assert!(child.wait().expect("a child can be waited for").success());
 }
@@ -178,7 +181,11 @@ fn binary_input() {
         assert_eq!(text(&output.stdout), replay::output(&input), "seed {seed}");
         assert_eq!(text(&output.stderr), "");
         let output = run("calls", "", &input);
-        assert_eq!(text(&output.stdout), calls::output(Sound, &input), "seed {seed}");
+        assert_eq!(
+            text(&output.stdout),
+            calls::output(Sound, &input),
+            "seed {seed}"
+        );
         assert_eq!(text(&output.stderr), "");
     }
 }
@@ -198,12 +205,18 @@ fn failing_after(sent: &[u8]) -> File {
     // SAFETY: the calls take a number or the descriptor that the first one gave; the name is copied before the next call.
     let (master, name) = unsafe {
         let fd = posix_openpt(READ_WRITE | NO_CONTROLLING);
-        assert!(fd >= 0 && grantpt(fd) == 0 && unlockpt(fd) == 0, "no terminal to be had");
+        assert!(
+            fd >= 0 && grantpt(fd) == 0 && unlockpt(fd) == 0,
+            "no terminal to be had"
+        );
         let name = CStr::from_ptr(ptsname(fd)).to_owned();
         (File::from_raw_fd(fd), name)
     };
     let name = name.to_str().expect("a device has a plain name");
-    let mut slave = OpenOptions::new().write(true).open(name).expect("the other side opens");
+    let mut slave = OpenOptions::new()
+        .write(true)
+        .open(name)
+        .expect("the other side opens");
     slave.write_all(sent).expect("a terminal takes a few lines");
     master
 }
@@ -241,13 +254,21 @@ fn a_gigabyte() {
         size += text.len() as u64;
         lines += 1;
     }
-    file.into_inner().expect("it is written").sync_all().expect("it is written");
+    file.into_inner()
+        .expect("it is written")
+        .sync_all()
+        .expect("it is written");
     assert!(lines < 1_000_000);
     let mut expected = Vec::new();
     let input = BufReader::new(File::open(&path).expect("it is there"));
     replay::run(input, &mut expected).expect("it can be read");
-    let from_file = Command::new(programs::path("replay")).stdin(File::open(&path).expect("it is there")).output();
-    assert!(from_file.expect("the program starts").stdout == expected, "from a file");
+    let from_file = Command::new(programs::path("replay"))
+        .stdin(File::open(&path).expect("it is there"))
+        .output();
+    assert!(
+        from_file.expect("the program starts").stdout == expected,
+        "from a file"
+    );
     let mut child = start("replay", "");
     let mut stdin = child.stdin.take().expect("it is piped");
     let writer = thread::spawn(move || {

@@ -220,7 +220,8 @@ impl Card {
         let frame = self.next_frame();
         self.building = None;
         self.lengths.insert(slot_of(frame), length);
-        self.sealed += 1;
+        // Frame numbers tell no more apart; a run has 64 at most.
+        self.sealed = (self.sealed + 1) % (1 << 16);
         Ok(frame as u16)
     }
 

@@ -1,4 +1,4 @@
-//! Where the proved programs are, and starting one with its streams piped.
+//! Where the programs over the proved library are, and starting one with its streams piped.
 
 use std::env;
 use std::path::{Path, PathBuf};
@@ -9,10 +9,12 @@ pub fn path(name: &str) -> PathBuf {
     if let Some(path) = env::var_os(format!("LW_{}", name.to_uppercase())) {
         return path.into();
     }
-    let path = Path::new(env!("CARGO_MANIFEST_DIR")).join("../../target/bin").join(name);
+    let path = Path::new(env!("CARGO_MANIFEST_DIR"))
+        .join("../../target/bin")
+        .join(name);
     assert!(
         path.is_file(),
-        "{} is absent. Make it with `rt check {name}` in the root of the repository, then run this again.",
+        "{} is absent. Make it with `make {name}` in the root of the repository, then run this again.",
         path.display()
     );
     path

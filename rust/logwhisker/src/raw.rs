@@ -1,0 +1,308 @@
+//! The exported functions one by one, on numbers, slices and arrays, as the library has
+//! them: all unsafe code is here. A return value of 0 is success and any other the
+//! refusal's number, where a function does not say otherwise. The declarations are
+//! checked against the library by the tests alone.
+
+#![allow(unsafe_code)]
+
+/// Words of a host's state.
+pub const HOST_WORDS: usize = 67;
+/// Words of a card's state.
+pub const CARD_WORDS: usize = 85;
+/// Words of an answer: kind, number, messages, bytes, completed, refusal, place.
+pub const ANSWER_WORDS: usize = 7;
+/// Words of a description: own, peer, next, marks, lowest, closed, open, and five for
+/// each of up to 32 open transactions.
+pub const DESCRIPTION_WORDS: usize = 167;
+
+/// Kinds of an answer.
+pub const ACCEPTED: u32 = 1;
+/// See [`ACCEPTED`].
+pub const AGAIN: u32 = 2;
+/// See [`ACCEPTED`].
+pub const NO_MESSAGES: u32 = 3;
+/// See [`ACCEPTED`].
+pub const REFUSED: u32 = 4;
+
+mod exported {
+    // A slice crosses the boundary as a pointer and then a length, a reference to an
+    // array or a number as a pointer alone.
+    unsafe extern "C" {
+        pub fn lw_raw_host_open(words: *mut u64, own: u16, peer: u16) -> u32;
+        pub fn lw_raw_host_receive(
+            words: *mut u64,
+            frame: *const u8,
+            length: usize,
+            memory: *mut u8,
+            size: usize,
+            answer: *mut u64,
+        ) -> u32;
+        pub fn lw_raw_host_acknowledge(
+            words: *const u64,
+            answer: *const u64,
+            number: u16,
+            frame: *mut u8,
+        ) -> u32;
+        pub fn lw_raw_host_describe(words: *const u64, description: *mut u64);
+        pub fn lw_raw_card_open(
+            words: *mut u64,
+            own: u16,
+            peer: u16,
+            limit: usize,
+            slots: *const u8,
+            size: usize,
+        ) -> u32;
+        pub fn lw_raw_card_open_transaction(
+            words: *mut u64,
+            count: u16,
+            address: u32,
+            value: u32,
+            transaction: *mut u32,
+        ) -> u32;
+        pub fn lw_raw_card_add(
+            words: *mut u64,
+            slots: *mut u8,
+            size: usize,
+            transaction: u32,
+            address: u32,
+            data: *const u8,
+            length: usize,
+        ) -> u32;
+        pub fn lw_raw_card_seal(
+            words: *mut u64,
+            slots: *const u8,
+            size: usize,
+            number: *mut u16,
+        ) -> u32;
+        pub fn lw_raw_card_read(words: *mut u64, frame: *const u8, length: usize) -> u32;
+        pub fn lw_raw_card_show(
+            words: *const u64,
+            slots: *const u8,
+            size: usize,
+            number: u16,
+            part: *mut u64,
+        ) -> u32;
+        pub fn lw_raw_card_choose(
+            words: *const u64,
+            slots: *const u8,
+            size: usize,
+            ack: *const u8,
+            length: usize,
+            part: *mut u64,
+        ) -> u32;
+
+        pub fn lw_layout_refusal(frame: *const u8, length: usize) -> u32;
+        pub fn lw_destination(frame: *const u8, length: usize) -> u32;
+        pub fn lw_source(frame: *const u8, length: usize) -> u32;
+        pub fn lw_frame_number(frame: *const u8, length: usize) -> u32;
+        pub fn lw_ack_start(frame: *const u8, length: usize) -> u32;
+        pub fn lw_ack_count(frame: *const u8, length: usize) -> u32;
+        pub fn lw_flags(frame: *const u8, length: usize) -> u32;
+        pub fn lw_message_count(frame: *const u8, length: usize) -> u32;
+        pub fn lw_data_bytes(frame: *const u8, length: usize) -> u32;
+        // Takes a number and answers one, so nothing can go wrong in calling it.
+        pub safe fn lw_refusal_class(number: u32) -> u32;
+    }
+}
+
+// SAFETY of all calls below: every pointer comes from a reference to an array of the
+// length that the library takes, or stands with its length for a slice; all stay borrowed
+// during the call, for writing where the library writes, and it keeps none of them.
+
+/// Opens a host: 0 or 13.
+#[inline]
+pub fn host_open(words: &mut [u64; HOST_WORDS], own: u16, peer: u16) -> u32 {
+    unsafe { exported::lw_raw_host_open(words.as_mut_ptr(), own, peer) }
+}
+
+/// Receives a frame and gives the answer's kind.
+#[inline]
+pub fn host_receive(
+    words: &mut [u64; HOST_WORDS],
+    frame: &[u8],
+    memory: &mut [u8],
+    answer: &mut [u64; ANSWER_WORDS],
+) -> u32 {
+    unsafe {
+        exported::lw_raw_host_receive(
+            words.as_mut_ptr(),
+            frame.as_ptr(),
+            frame.len(),
+            memory.as_mut_ptr(),
+            memory.len(),
+            answer.as_mut_ptr(),
+        )
+    }
+}
+
+/// Writes the acknowledgement that an answer calls for and gives 1; otherwise 0, and
+/// nothing is written.
+#[inline]
+pub fn host_acknowledge(
+    words: &[u64; HOST_WORDS],
+    answer: &[u64; ANSWER_WORDS],
+    number: u16,
+    frame: &mut [u8; 10],
+) -> u32 {
+    unsafe {
+        exported::lw_raw_host_acknowledge(
+            words.as_ptr(),
+            answer.as_ptr(),
+            number,
+            frame.as_mut_ptr(),
+        )
+    }
+}
+
+/// Writes all words of the description.
+#[inline]
+pub fn host_describe(words: &[u64; HOST_WORDS], description: &mut [u64; DESCRIPTION_WORDS]) {
+    unsafe { exported::lw_raw_host_describe(words.as_ptr(), description.as_mut_ptr()) }
+}
+
+/// Opens a card.
+#[inline]
+pub fn card_open(
+    words: &mut [u64; CARD_WORDS],
+    own: u16,
+    peer: u16,
+    limit: usize,
+    slots: &[u8],
+) -> u32 {
+    unsafe {
+        exported::lw_raw_card_open(
+            words.as_mut_ptr(),
+            own,
+            peer,
+            limit,
+            slots.as_ptr(),
+            slots.len(),
+        )
+    }
+}
+
+/// Opens a transaction; where it is refused, `transaction` stays as it was.
+#[inline]
+pub fn card_open_transaction(
+    words: &mut [u64; CARD_WORDS],
+    count: u16,
+    address: u32,
+    value: u32,
+    transaction: &mut u32,
+) -> u32 {
+    unsafe {
+        exported::lw_raw_card_open_transaction(
+            words.as_mut_ptr(),
+            count,
+            address,
+            value,
+            transaction,
+        )
+    }
+}
+
+/// Adds a message.
+#[inline]
+pub fn card_add(
+    words: &mut [u64; CARD_WORDS],
+    slots: &mut [u8],
+    transaction: u32,
+    address: u32,
+    data: &[u8],
+) -> u32 {
+    unsafe {
+        exported::lw_raw_card_add(
+            words.as_mut_ptr(),
+            slots.as_mut_ptr(),
+            slots.len(),
+            transaction,
+            address,
+            data.as_ptr(),
+            data.len(),
+        )
+    }
+}
+
+/// Seals; where it is refused, `number` stays as it was.
+#[inline]
+pub fn card_seal(words: &mut [u64; CARD_WORDS], slots: &[u8], number: &mut u16) -> u32 {
+    unsafe { exported::lw_raw_card_seal(words.as_mut_ptr(), slots.as_ptr(), slots.len(), number) }
+}
+
+/// Reads a frame's acknowledgements.
+#[inline]
+pub fn card_read(words: &mut [u64; CARD_WORDS], frame: &[u8]) -> u32 {
+    unsafe { exported::lw_raw_card_read(words.as_mut_ptr(), frame.as_ptr(), frame.len()) }
+}
+
+/// Shows a held frame: its offset in the slots and its length, both 0 where refused.
+#[inline]
+pub fn card_show(words: &[u64; CARD_WORDS], slots: &[u8], number: u16, part: &mut [u64; 2]) -> u32 {
+    unsafe {
+        exported::lw_raw_card_show(
+            words.as_ptr(),
+            slots.as_ptr(),
+            slots.len(),
+            number,
+            part.as_mut_ptr(),
+        )
+    }
+}
+
+/// Chooses what goes out next: 1 for the lent acknowledgement and 0 for a frame in the
+/// slots, its offset in that buffer and its length; all 0 where refused.
+#[inline]
+pub fn card_choose(
+    words: &[u64; CARD_WORDS],
+    slots: &[u8],
+    ack: &[u8],
+    part: &mut [u64; 3],
+) -> u32 {
+    unsafe {
+        exported::lw_raw_card_choose(
+            words.as_ptr(),
+            slots.as_ptr(),
+            slots.len(),
+            ack.as_ptr(),
+            ack.len(),
+            part.as_mut_ptr(),
+        )
+    }
+}
+
+macro_rules! of_frame {
+    ($($(#[$doc:meta])* $name:ident = $exported:ident,)*) => {$(
+        $(#[$doc])*
+        #[inline]
+        pub fn $name(frame: &[u8]) -> u32 {
+            unsafe { exported::$exported(frame.as_ptr(), frame.len()) }
+        }
+    )*};
+}
+
+of_frame! {
+    /// The first refusal of 1, 2, 4 and 5 that applies to the layout, or 0 for none.
+    layout_refusal = lw_layout_refusal,
+    /// The destination ID, or 0 if the layout is refused.
+    destination = lw_destination,
+    /// The source ID, or 0 if the layout is refused.
+    source = lw_source,
+    /// The frame number, or 0 if the layout is refused.
+    frame_number = lw_frame_number,
+    /// ACKStart as it stands, also with ACKCount 0, or 0 if the layout is refused.
+    ack_start = lw_ack_start,
+    /// ACKCount, or 0 if the layout is refused.
+    ack_count = lw_ack_count,
+    /// The flags, or 0 if the layout is refused.
+    flags = lw_flags,
+    /// The number of messages, or 0 if the layout is refused or the flag is clear.
+    message_count = lw_message_count,
+    /// The sum of the data lengths, or 0 if the layout is refused or the flag is clear.
+    data_bytes = lw_data_bytes,
+}
+
+/// The class of a refusal number: 0 none, 1 wire, 2 message, 3 caller, 4 card.
+#[inline]
+pub fn refusal_class(number: u32) -> u32 {
+    exported::lw_refusal_class(number)
+}

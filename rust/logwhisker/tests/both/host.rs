@@ -1,0 +1,167 @@
+//! The proved host beside the independent one: after every call its answer, the
+//! acknowledgement, memory, description and state are compared.
+
+use logwhisker::raw::{self, ANSWER_WORDS, DESCRIPTION_WORDS, HOST_WORDS};
+use reference::host::{Answer, Host};
+
+/// Bytes on both sides of memory that must stay as they are.
+const MARGIN: usize = 64;
+/// What buffers hold that a call is to write whole, or not at all.
+const JUNK: u64 = 0xa5a5_a5a5_a5a5_a5a5;
+
+/// The bits of a host's words that have a meaning.
+fn named(words: &[u64; HOST_WORDS]) -> [u64; HOST_WORDS] {
+    let mut named = *words;
+    named[0] &= (1 << 48) - 1;
+    for place in 0..32 {
+        named[4 + 2 * place] &= u64::from(u32::MAX);
+    }
+    named
+}
+
+/// Both hosts, and the memory of each.
+pub struct Both {
+    words: [u64; HOST_WORDS],
+    /// With a margin on both sides.
+    lent: Vec<u8>,
+    reference: Host,
+    memory: Vec<u8>,
+}
+
+impl Both {
+    /// Both opened; how that is answered is compared.
+    pub fn open(own: u16, peer: u16, memory: &[u8]) -> Both {
+        let mut words = [JUNK; HOST_WORDS];
+        let got = raw::host_open(&mut words, own, peer);
+        let (reference, refusal) = Host::open(own, peer);
+        assert_eq!(got, refusal.unwrap_or(0).into(), "opening {own}, {peer}");
+        let both = Both::new(words, reference, memory);
+        both.compare_state(&|| format!("opening {own}, {peer}"));
+        both
+    }
+
+    /// Both in the state that these words are.
+    pub fn from_words(words: [u64; HOST_WORDS], memory: &[u8]) -> Both {
+        let both = Both::new(words, Host::from_words(&words), memory);
+        both.compare_state(&|| format!("{words:x?}"));
+        both
+    }
+
+    fn new(words: [u64; HOST_WORDS], reference: Host, memory: &[u8]) -> Both {
+        let margin = [0xa5; MARGIN];
+        Both {
+            words,
+            lent: [&margin[..], memory, &margin].concat(),
+            reference,
+            memory: memory.to_vec(),
+        }
+    }
+
+    /// Lets both have the frame, and gives what both answer. `next_number` goes into the
+    /// acknowledgement; `name` says in a failure which frame it is.
+    pub fn receive(&mut self, frame: &[u8], next_number: u16, name: &dyn Fn() -> String) -> Answer {
+        let before = named(&self.words);
+        let end = MARGIN + self.memory.len();
+        let mut answer = [JUNK; ANSWER_WORDS];
+        let lent = &mut self.lent[MARGIN..end];
+        let kind = raw::host_receive(&mut self.words, frame, lent, &mut answer);
+        let expected = self.reference.receive(frame, &mut self.memory);
+        assert_eq!(answer, answer_words(expected), "{expected:?}: {}", name());
+        assert_eq!(u64::from(kind), answer[0], "kind: {}", name());
+        let at = self.lent[MARGIN..end]
+            .iter()
+            .zip(&self.memory)
+            .position(|(a, b)| a != b);
+        assert_eq!(at, None, "memory after {expected:?}: {}", name());
+        let margins = self.lent[..MARGIN].iter().chain(&self.lent[end..]);
+        assert!(
+            margins.into_iter().all(|byte| *byte == 0xa5),
+            "beside memory: {}",
+            name()
+        );
+        if !matches!(expected, Answer::Accepted { .. }) {
+            assert!(
+                named(&self.words) == before,
+                "state after {expected:?}: {}",
+                name()
+            );
+        }
+        self.compare_state(name);
+        self.compare_acknowledgement(expected, &answer, next_number, name);
+        expected
+    }
+
+    fn compare_acknowledgement(
+        &self,
+        expected: Answer,
+        answer: &[u64; ANSWER_WORDS],
+        next_number: u16,
+        name: &dyn Fn() -> String,
+    ) {
+        let mut frame = [0xa5; 10];
+        let due = raw::host_acknowledge(&self.words, answer, next_number, &mut frame);
+        let acknowledgement = self.reference.acknowledgement(expected, next_number);
+        assert_eq!(due, u32::from(acknowledgement.is_some()), "{}", name());
+        assert_eq!(frame, acknowledgement.unwrap_or([0xa5; 10]), "{}", name());
+    }
+
+    fn compare_state(&self, name: &dyn Fn() -> String) {
+        let mut description = [JUNK; DESCRIPTION_WORDS];
+        raw::host_describe(&self.words, &mut description);
+        assert!(
+            description == description_of(&self.reference),
+            "description: {}",
+            name()
+        );
+        let got = Host::from_words(&self.words).to_words();
+        assert!(got == self.reference.to_words(), "state: {}", name());
+    }
+
+    /// What both hosts left.
+    pub fn memory(&self) -> &[u8] {
+        &self.memory
+    }
+
+    /// The proved host's state.
+    pub fn words(&self) -> &[u64; HOST_WORDS] {
+        &self.words
+    }
+}
+
+/// What a kind of answer does not have is 0.
+pub fn answer_words(answer: Answer) -> [u64; ANSWER_WORDS] {
+    match answer {
+        Answer::Accepted {
+            number,
+            messages,
+            bytes,
+            completed,
+        } => [1, number.into(), messages, bytes, completed, 0, 0],
+        Answer::Again(number) => [2, number.into(), 0, 0, 0, 0, 0],
+        Answer::NoMessages => [3, 0, 0, 0, 0, 0, 0],
+        Answer::Refused { number, place } => [4, 0, 0, 0, 0, number.into(), place as u64],
+    }
+}
+
+fn description_of(host: &Host) -> [u64; DESCRIPTION_WORDS] {
+    let ((own, peer), next, lowest) = (host.ids(), host.next(), host.lowest());
+    let mut words = vec![own.into(), peer.into(), next.into(), 0, lowest.into(), 0];
+    let accepted = (0..64u16).filter(|i| host.is_accepted(next.wrapping_add(*i)));
+    words[3] = accepted.map(|i| 1 << i).sum();
+    let closed = (0..32u32).filter(|i| host.is_closed(lowest.wrapping_add(*i)));
+    words[5] = closed.map(|i| 1 << i).sum();
+    let mut open: Vec<_> = host.open_transactions().iter().collect();
+    open.sort_by_key(|(number, _)| number.wrapping_sub(lowest));
+    words.push(open.len() as u64);
+    for (number, entry) in open {
+        let terms = entry.terms;
+        words.extend([u64::from(*number), terms.completion_address.into()]);
+        words.extend([
+            u64::from(terms.completion_value),
+            terms.count.into(),
+            entry.received.into(),
+        ]);
+    }
+    words.resize(DESCRIPTION_WORDS, 0);
+    words.try_into().expect("there are no more than 32")
+}
