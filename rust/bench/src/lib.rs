@@ -1,8 +1,11 @@
-//! What the benchmarks are made of: a plain host and a plain replay written for speed,
-//! and the frames that they and the proved ones are timed on.
+//! What the benchmarks are made of: both ends and the replay in plain Rust written for
+//! speed, the frames that hosts are timed on, the steps that cards are timed on, and both
+//! kinds of ends behind the same boundary.
 
 #![forbid(unsafe_code)]
 
+pub mod ends;
 pub mod plain;
 pub mod replay;
 pub mod shapes;
+pub mod steps;

@@ -2,7 +2,7 @@
 //! table, and one buffer each for a line, its bytes and what is written. A test beside
 //! it compares its output with the reference's.
 
-use crate::plain::{Answer, Host};
+use crate::plain::host::{Answer, Host};
 use std::io::{self, BufRead, Write};
 
 /// Bytes of the replay's memory.

@@ -7,11 +7,12 @@
 mod both;
 mod faulty_card;
 
-use both::{Aim, Both, Call, Outcome};
+use both::Both;
 use faulty_card::{Fault, Faulty};
 use logwhisker::raw::CARD_WORDS;
 use logwhisker::{Card as Proved, Chosen, Refusal};
 use reference::card::{Card, SLOTS};
+use reference::card_calls::{Aim, Call, Outcome};
 use reference::cases::{WHOLE_CASE, WHOLE_CASE_ACKNOWLEDGEMENT};
 use reference::rng::Rng;
 use reference::settings::number_from_env;

@@ -7,6 +7,7 @@
 pub mod book;
 pub mod calls;
 pub mod card;
+pub mod card_calls;
 pub mod cases;
 pub mod demand;
 pub mod ends;

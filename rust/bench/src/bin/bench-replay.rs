@@ -5,7 +5,7 @@
 #![forbid(unsafe_code)]
 
 use bench::replay::MEMORY;
-use bench::shapes::{FRAME, SHAPES, Shape};
+use bench::shapes::{REPLAY_SHAPES, Shape};
 use std::env;
 use std::fmt::Write;
 use std::fs::{self, File};
@@ -16,6 +16,8 @@ use std::time::Instant;
 
 /// Lines of a file: every frame number once.
 const LINES: usize = 65_536;
+/// Bytes of a frame.
+const FRAME: usize = 1_500;
 /// Turns that are counted: a million lines of each shape.
 const TURNS: usize = 16;
 
@@ -28,7 +30,7 @@ fn main() -> io::Result<()> {
     println!("{LINES} lines a run, {TURNS} runs, frames of {FRAME} bytes");
     println!("ns a line: best, median");
     let file = env::temp_dir().join(format!("bench-replay-{}", std::process::id()));
-    for shape in SHAPES {
+    for shape in REPLAY_SHAPES {
         fs::write(&file, lines(&shape))?;
         let timed = time(shape, &file, [&plain, &proved]);
         fs::remove_file(&file)?;

@@ -2,8 +2,8 @@
 //! uncover it. It lets the independent card do the call and spoils what comes of it, so that
 //! without a fault it agrees, and with one it goes wrong in that alone.
 
-use super::both::{Call, Outcome, expected};
 use reference::card::{CARD_WORDS, Card};
+use reference::card_calls::{Call, Outcome, expected};
 use reference::wire;
 use std::collections::BTreeSet;
 
