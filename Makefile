@@ -56,9 +56,8 @@ $(DEMO_PROGRAMS): target/demo/%: c/demo/%.c c/demo/common.c c/demo/common.h $(IN
 bench:
 	rt check replay
 	rt staticlib capi
-	rt staticlib host_run
 	cd rust && cargo build --offline --profile bench-release -p bench --features proved
-	target/rust/bench-release/bench-host
+	target/rust/bench-release/bench-ends
 	target/rust/bench-release/bench-replay target/bin/replay
 
 # What takes too long for the gate: a file of 1 GB through the replay, and the comparisons with the independent implementation ten

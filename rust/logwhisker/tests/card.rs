@@ -202,7 +202,9 @@ fn frame_numbers_that_come_round() {
         let frame = wire::ack_frame(1, 2, 0, start, rng.between(1, 80) as u8);
         both.call(&Call::Read(frame.to_vec()), &name);
     }
-    assert!(opened > 30, "{opened} opened");
+    // No more than 32 before the one with 65,535 messages is finished, and many after.
+    println!("seed {seed}: {sealed} frames, {opened} transactions");
+    assert!(opened > 500, "{opened} opened");
 }
 
 /// Any words: of every kind of value for each field, and of none in particular.
