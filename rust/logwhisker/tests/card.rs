@@ -214,59 +214,70 @@ fn any_words(rng: &mut Rng, limit: usize) -> [u64; CARD_WORDS] {
     if rng.chance(1, 8) {
         return words;
     }
-    let small = |value: usize| value as u64;
+    let next = any_frames(&mut words, limit, rng);
+    let lowest = rng.pick(&[0, 1, u64::from(u32::MAX), words[3] >> 32]);
+    let opened = match rng.below(6) {
+        0 => 0,
+        1 => rng.pick(&[31, 32, 33, 64, 1 << 31, u64::from(u32::MAX)]),
+        _ => rng.below(33) as u64,
+    };
+    words[3] = ((lowest + opened) & u64::from(u32::MAX)) | lowest << 32;
+    words[4] = any_marks(rng);
+    for entry in 0..32 {
+        let unnamed = words[22 + 2 * entry] >> 48 << 48;
+        words[22 + 2 * entry] = any_entry(next, rng) | unnamed;
+    }
+    words
+}
+
+/// The words about frames; gives the number of the one being built.
+fn any_frames(words: &mut [u64; CARD_WORDS], limit: usize, rng: &mut Rng) -> u64 {
     let used = match rng.below(6) {
         0..3 => 0,
-        3 => small(rng.below(12)),
-        4 => small(rng.below(limit + 2)),
+        3 => rng.below(12) as u64,
+        4 => rng.below(limit + 2) as u64,
         _ => words[0] >> 48,
     };
-    words[0] = 1 | 2 << 16 | small(limit) << 32 | used << 48;
-    let last = rng.pick(&[10, 10, small(limit), words[1] & 0xffff]);
+    words[0] = 1 | 2 << 16 | (limit as u64) << 32 | used << 48;
+    let last = rng.pick(&[10, 10, limit as u64, words[1] & 0xffff]);
     let base = rng.pick(&[0, 1, 65_500, 65_535, words[1] >> 32 & 0xffff]);
     let unreleased = match rng.below(6) {
         0 => 0,
         1 => rng.pick(&[63, 64, 65, 127, 32_768, 65_535]),
         2 => words[1] >> 48,
-        _ => small(rng.below(65)),
+        _ => rng.below(65) as u64,
     };
-    words[1] = last | (base + unreleased & 0xffff) << 16 | base << 32 | words[1] >> 48 << 48;
+    let next = (base + unreleased) & 0xffff;
+    words[1] = last | next << 16 | base << 32 | words[1] >> 48 << 48;
     words[2] = any_marks(rng);
-    let lowest = rng.pick(&[0, 1, u64::from(u32::MAX), words[3] >> 32]);
-    let opened = match rng.below(6) {
-        0 => 0,
-        1 => rng.pick(&[31, 32, 33, 64, 1 << 31, u64::from(u32::MAX)]),
-        _ => small(rng.below(33)),
-    };
-    words[3] = (lowest + opened & u64::from(u32::MAX)) | lowest << 32;
-    words[4] = any_marks(rng);
     for slot in 0..SLOTS {
         let size = match rng.below(8) {
             0 => 0,
             1 => rng.next_u16().into(),
-            2 => small(limit + 1),
-            _ => small(rng.below(limit + 1)),
+            2 => limit as u64 + 1,
+            _ => rng.below(limit + 1) as u64,
         };
         let at = 16 * (slot % 4);
         words[5 + slot / 4] = words[5 + slot / 4] & !(0xffff << at) | size << at;
     }
-    for place in 0..32 {
-        let count = rng.pick(&[0, 1, 1, 2, 3, 65_535]);
-        // Fewer than there are to be, all, and more.
-        let added = match rng.below(8) {
-            0 => 65_535,
-            1..4 => count.max(1),
-            4 => count + 1 & 0xffff,
-            _ => rng.below(3) as u64,
-        };
-        let latest = match rng.below(4) {
-            0 => rng.next_u16().into(),
-            _ => base + unreleased + small(rng.below(140)) + 65_536 - 70 & 0xffff,
-        };
-        let unnamed = words[22 + 2 * place] >> 48 << 48;
-        words[22 + 2 * place] = count | added << 16 | latest << 32 | unnamed;
-    }
-    words
+    next
+}
+
+/// Count, added and latest frame of a transaction: fewer added than there are to be, all, or
+/// more, and the frame mostly near the one being built.
+fn any_entry(next: u64, rng: &mut Rng) -> u64 {
+    let count = rng.pick(&[0, 1, 1, 2, 3, 65_535]);
+    let added = match rng.below(8) {
+        0 => 65_535,
+        1..4 => count.max(1),
+        4 => (count + 1) & 0xffff,
+        _ => rng.below(3) as u64,
+    };
+    let latest = match rng.below(4) {
+        0 => rng.next_u16().into(),
+        _ => (next + 65_536 - 70 + rng.below(140) as u64) & 0xffff,
+    };
+    count | added << 16 | latest << 32
 }
 
 fn any_marks(rng: &mut Rng) -> u64 {

@@ -170,58 +170,26 @@ impl Faulty {
         let slot = usize::from(number) % 64 * self.limit;
         let old = self.slots[slot..slot + self.limit].to_vec();
         let outcome = self.right(call);
-        let (next, lowest) = (before[3] as u32, (before[3] >> 32) as u32);
-        let entry = before[22 + 2 * (*transaction as usize % 32)];
-        let (count, added) = (entry & 0xffff, entry >> 16 & 0xffff);
-        let known = transaction.wrapping_sub(lowest) < next.wrapping_sub(lowest);
-        let unreleased = number.wrapping_sub((before[1] >> 32) as u16);
         let start = wire::next_header(used);
-        let end = start + 24 + data.len();
-        let wrong = [
-            (26, *short),
-            (23, !known || added >= count.max(1)),
-            (27, known && count == 0 && !data.is_empty()),
-            (21, unreleased >= 64),
-            (22, end > self.limit),
-        ];
-        let order = |order: [usize; 5]| {
-            let first = order
-                .iter()
-                .map(|index| wrong[*index])
-                .find(|(_, holds)| *holds);
-            first.map_or(Outcome::Done, |(number, _)| Outcome::Refused(number))
-        };
-        let done = outcome == Outcome::Done;
-        let slot = &mut self.slots[slot..slot + self.limit];
-        match self.fault {
-            Some(Fault::TwentyThreeBeforeTwentySix) => return order([1, 0, 2, 3, 4]),
-            Some(Fault::TwentySevenBeforeTwentyThree) => return order([0, 2, 1, 3, 4]),
-            Some(Fault::TwentyOneBeforeTwentySeven) => return order([0, 1, 3, 2, 4]),
-            Some(Fault::TwentyTwoBeforeTwentyOne) => return order([0, 1, 2, 4, 3]),
-            Some(Fault::TwentyTwoBeforeTwentyThree) => return order([0, 4, 1, 2, 3]),
-            Some(Fault::LimitOneLess) if done && end == self.limit => return Outcome::Refused(22),
-            Some(Fault::LimitOneMore) if end == self.limit + 1 => {
-                return if wrong[..4].iter().any(|(_, holds)| *holds) {
-                    outcome
-                } else {
-                    Outcome::Done
-                };
+        let adding = Adding::new(
+            before,
+            *transaction,
+            data,
+            *short,
+            start + 24 + data.len(),
+            self.limit,
+        );
+        match adding.outcome(self.fault, self.limit, &outcome) {
+            Some(wrong) => return wrong,
+            None if outcome == Outcome::Done => {
+                self.spoil_bytes(number, used, start..adding.end, &old);
             }
-            Some(Fault::FrameWindow63) if done && unreleased == 63 => return Outcome::Refused(21),
-            Some(Fault::FrameWindow65) if outcome == Outcome::Refused(21) => return Outcome::Done,
-            Some(Fault::BareTakesData) if outcome == Outcome::Refused(27) => return Outcome::Done,
-            Some(Fault::BareAddedTwice)
-                if known && count == 0 && outcome == Outcome::Refused(23) =>
+            None if self.fault == Some(Fault::RefusedAddingWrites)
+                && outcome == Outcome::Refused(22) =>
             {
-                return Outcome::Done;
+                self.slots[slot..slot + 10].fill(0);
             }
-            Some(Fault::RefusedAddingWrites) if outcome == Outcome::Refused(22) => {
-                slot[..10].fill(0);
-            }
-            _ => {}
-        }
-        if done {
-            self.spoil_bytes(number, used, start..end, &old);
+            None => {}
         }
         outcome
     }
@@ -273,12 +241,12 @@ impl Faulty {
                 let slot = *number as usize % 64 * self.limit;
                 self.slots[slot + used..slot + self.limit].fill(0);
             }
-            (Some(Fault::AcknowledgesBuilding), Outcome::Number(number)) => {
-                if self.early.remove(&(*number as u16)) {
-                    let (own, peer) = (before[0] as u16, (before[0] >> 16) as u16);
-                    let frame = wire::ack_frame(own, peer, 0, *number as u16, 1);
-                    self.card.read(&frame).expect("it is for this card");
-                }
+            (Some(Fault::AcknowledgesBuilding), Outcome::Number(number))
+                if self.early.remove(&(*number as u16)) =>
+            {
+                let (own, peer) = (before[0] as u16, (before[0] >> 16) as u16);
+                let frame = wire::ack_frame(own, peer, 0, *number as u16, 1);
+                self.card.read(&frame).expect("it is for this card");
             }
             _ => {}
         }
@@ -416,6 +384,73 @@ impl Faulty {
             }
             Some(Fault::ChoosesWithoutSlots) if lent.len() == 10 => Outcome::Lent(lent.to_vec()),
             _ => outcome,
+        }
+    }
+}
+
+/// What decides about an adding.
+struct Adding {
+    /// Each refusal in the order of the rules, and whether it applies.
+    refusals: [(u8, bool); 5],
+    /// The transaction is one of the opened ones, and bare.
+    bare: bool,
+    unreleased: u16,
+    /// Where the message would end.
+    end: usize,
+}
+
+impl Adding {
+    fn new(
+        before: &[u64; CARD_WORDS],
+        transaction: u32,
+        data: &[u8],
+        short: bool,
+        end: usize,
+        limit: usize,
+    ) -> Adding {
+        let (next, lowest) = (before[3] as u32, (before[3] >> 32) as u32);
+        let entry = before[22 + 2 * (transaction as usize % 32)];
+        let (count, added) = (entry & 0xffff, entry >> 16 & 0xffff);
+        let known = transaction.wrapping_sub(lowest) < next.wrapping_sub(lowest);
+        let unreleased = ((before[1] >> 16) as u16).wrapping_sub((before[1] >> 32) as u16);
+        Adding {
+            refusals: [
+                (26, short),
+                (23, !known || added >= count.max(1)),
+                (27, known && count == 0 && !data.is_empty()),
+                (21, unreleased >= 64),
+                (22, end > limit),
+            ],
+            bare: known && count == 0,
+            unreleased,
+            end,
+        }
+    }
+
+    /// The first refusal of these in this order.
+    fn first(&self, order: [usize; 5]) -> Option<Outcome> {
+        let mut refusals = order.iter().map(|index| self.refusals[*index]);
+        let first = refusals.find(|(_, applies)| *applies);
+        Some(first.map_or(Outcome::Done, |(number, _)| Outcome::Refused(number)))
+    }
+
+    /// What the fault makes of the outcome, if it is one of those.
+    fn outcome(&self, fault: Option<Fault>, limit: usize, right: &Outcome) -> Option<Outcome> {
+        let done = *right == Outcome::Done;
+        let refused = |number| *right == Outcome::Refused(number);
+        match fault? {
+            Fault::TwentyThreeBeforeTwentySix => self.first([1, 0, 2, 3, 4]),
+            Fault::TwentySevenBeforeTwentyThree => self.first([0, 2, 1, 3, 4]),
+            Fault::TwentyOneBeforeTwentySeven => self.first([0, 1, 3, 2, 4]),
+            Fault::TwentyTwoBeforeTwentyOne => self.first([0, 1, 2, 4, 3]),
+            Fault::TwentyTwoBeforeTwentyThree => self.first([0, 4, 1, 2, 3]),
+            Fault::LimitOneLess if done && self.end == limit => Some(Outcome::Refused(22)),
+            Fault::LimitOneMore if refused(22) && self.end == limit + 1 => Some(Outcome::Done),
+            Fault::FrameWindow63 if done && self.unreleased == 63 => Some(Outcome::Refused(21)),
+            Fault::FrameWindow65 if refused(21) && self.unreleased == 64 => Some(Outcome::Done),
+            Fault::BareTakesData if refused(27) => Some(Outcome::Done),
+            Fault::BareAddedTwice if refused(23) && self.bare => Some(Outcome::Done),
+            _ => None,
         }
     }
 }
