@@ -243,8 +243,7 @@ start-arriving b c = refl
 module _ (h : Pair) (b : Book) (r : HostFor h b) (s : Sound b) (c : ℕ) (kept : WritesAllowed (enterArrival b c))
     (counts : (i : ℕ) → i < length (b .transactions) → transactionAt b i .count < frameSpace)
     (inside : c < length (b .frames)) (inTime : lowestNotAccepted b ≤ c + 32768)
-    (isNew : frameAt b c .accepted ≡ false)
-    (countsFit : (i : ℕ) → i < length (b .transactions) → transactionAt b i .count < 65536) where
+    (isNew : frameAt b c .accepted ≡ false) where
   abbrev es : List MessageRecord
   es = frameAt b c .messages
 
@@ -275,9 +274,8 @@ module _ (h : Pair) (b : Book) (r : HostFor h b) (s : Sound b) (c : ℕ) (kept :
             record {
               bare = s .bare e me;
               dataIn = omega (arith, size-memory b);
-              completionIn = omega
-                  (arith, size-memory b);
-              countFits = countsFit (e .trans) (s .known e me);
+              completionIn = omega (arith, size-memory b);
+              countFits = counts (e .trans) (s .known e me);
             },
             go xs (λ x k. m x (List·Memᴰ·tail k)),
           )

@@ -43,12 +43,12 @@ use Rattle.delivery.proofs.Host.HostStep.{
   for-closing,
 }
 
--- What a message writes lies inside, a bare message is bare, and the count fits its field.
+-- What a message writes lies inside, a bare message is bare, and its transaction's count is a 16-bit number.
 pub record InsideOne (ds : List Transaction) (size : ℕ) (e : MessageRecord) : Type 0 where
   pub bare : getD ds (e .trans) noTransaction .count ≡ 0 → e .bytes ≡ []
   pub dataIn : e .dataAddress + length (e .bytes) ≤ size
   pub completionIn : getD ds (e .trans) noTransaction .completionAddress + 4 ≤ size
-  pub countFits : getD ds (e .trans) noTransaction .count < 65536
+  pub countFits : getD ds (e .trans) noTransaction .count < frameSpace
 
 abbrev pub Inside : List Transaction → ℕ → List MessageRecord → Type 0
 Inside ds size [] = Unit {0}

@@ -183,11 +183,11 @@ just-full n c h = go (decLe n (suc c))
     go (yes k) = eq-eqb n (suc c) (omega (arith, less, k)) ∙ sym (le-leb n (suc c) k)
     go (no k) = ne-eqb n (suc c) (λ q. k (omega (arith, q))) ∙ sym (lt-leb n (suc c) (omega (arith, k)))
 
-needed-fits : (c : ℕ) → c < 65536 → needed c < 65536
+needed-fits : (c : ℕ) → c < frameSpace → needed c < frameSpace
 unfolding needed
 needed-fits c h = go (eqb c 0)
   where
-    go : (b : Bool) → cond b 1 c < 65536
+    go : (b : Bool) → cond b 1 c < frameSpace
     go true = lit< tt
     go false = h
 
@@ -222,8 +222,9 @@ module _ (l : Transactions) (ds : List Transaction) (es es′ : List MessageReco
   unfolding fills allMessagesIn headOf
   fills-is = rw (received-is l ds es r e fit isKnown notFull, one) (just-full _ (count (e .trans) es) notFull)
 
-  -- not yet complete: the same windows, one more received
-  module _ (still : fullAt ds es′ (e .trans) ≡ false) (countFits : getD ds (e .trans) noTransaction .count < 65536) where
+  -- not yet complete: the same windows, one more received, which its 16 bits hold
+  module _ (still : fullAt ds es′ (e .trans) ≡ false)
+      (countFits : getD ds (e .trans) noTransaction .count < frameSpace) where
     full-same : (i : ℕ) → fullAt ds es′ i ≡ fullAt ds es i
     full-same i = go (ℕ-discrete (e .trans) i)
       where
@@ -273,7 +274,7 @@ module _ (l : Transactions) (ds : List Transaction) (es es′ : List MessageReco
     for-holding =
         subst
         (λ (o : Open).
-        TransactionsFor (record { lowest = l .lowest; closed = l .closed; table = set (l .table) k o }) ds es′)
+          TransactionsFor (record { lowest = l .lowest; closed = l .closed; table = set (l .table) k o }) ds es′)
         (sym left-is)
         (record {
           lowestIs = rw low-same (r .lowestIs);

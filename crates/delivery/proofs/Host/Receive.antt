@@ -33,7 +33,7 @@ use Rattle.host.specs.declared.Pair.{Pair}
 use Rattle.host.specs.declared.Sums.{Sums}
 use Rattle.host.specs.declared.Answer.{Answer}
 use Rattle.host.specs.declared.Answer.the-variants.{Accepted, Again, NoMessages}
-use Rattle.host.specs.Host.{unchanged, refused, byNumber, receiveOf, rangeOf, acknowledgementOf}
+use Rattle.host.specs.Host.{unchanged, refused, byNumber, receiveOf, rangeOf, acknowledgementFrom}
 use Rattle.host.proofs.Receiving.{received-refused, received-none, received-good}
 use Rattle.delivery.specs.Book.{
   MessageRecord,
@@ -144,11 +144,11 @@ pub record NoEffect (h : Pair) (a : Answer) : Type 0 where
   pub noSummand : (g : Sums → ℕ) → summand g a ≡ 0
 
 refusal-no-effect : (h : Pair) (r : ℕ) → NoEffect h (refused r 0)
-unfolding seenAs acksFor acknowledgementOf
+unfolding seenAs acksFor acknowledgementFrom
 refusal-no-effect h r = record { seen = refl; noAck = refl; noSummand = λ g. refl }
 
 none-no-effect : (h : Pair) → NoEffect h NoMessages
-unfolding seenAs acksFor acknowledgementOf
+unfolding seenAs acksFor acknowledgementFrom
 none-no-effect h = record { seen = refl; noAck = refl; noSummand = λ g. refl }
 
 -- 10 bytes hold no message, whatever they are
@@ -296,7 +296,7 @@ module _ (cardId hostId : ℕ) (cardFits : cardId < frameSpace) (hostFits : host
     acks-now : (x : Pair) (a : Answer) → x .own ≡ hostId → x .peer ≡ cardId → rangeOf a
         ≡ record { start = record { 0 = num }; count = 1 }
         → Along (Acknowledges cardId hostId) (w .acks ++ acksFor specifiedHost x a) (b′ .acksDue)
-    unfolding enterArrival acksFor acknowledgementOf
+    unfolding enterArrival acksFor acknowledgementFrom
     acks-now x a o p q =
         rw (o, p, q)
         (along-more (Acknowledges cardId hostId) (w .acks) (b .acksDue) (ackFrame cardId hostId 0 num 1) (oneFrame c)
@@ -569,8 +569,8 @@ module _ (cardId hostId : ℕ) (cardFits : cardId < frameSpace) (hostFits : host
           ∙ ap (λ (m : List ℕ). unchanged h m (Again (record { 0 = c % frameSpace }))) (sym (f .rest .memoryIs)))
           (after-again c inside e)
       go false e =
-          let t = answers-first h b (f .rest .hostFor) (f .sound) c kept inside late e
-          (λ i l. f .rest .typed .termsTyped i l .count-fits) in
+          let t = answers-first h b (f .rest .hostFor) (f .sound) c kept
+          (λ i l. f .rest .typed .termsTyped i l .count-fits) inside late e in
           rw (got ∙ t .answered)
           (after-first c inside e (t .next) (t .nextFor) (t .sameOwn ∙ f .rest .hostOwn)
           (t .samePeer ∙ f .rest .hostPeer))

@@ -8,7 +8,7 @@ use Rattle.wire.specs.Reading.{addressed, follows, messageAt, messagesFrom, hea
 use Rattle.wire.specs.Writing.{frameHead, messageHead, laid, frameOf, ackFrame, roomFor, firstMessage, nextMessage}
 use Rattle.host.specs.Terms.{agrees, termsRefusal, addressRefusal}
 use Rattle.host.specs.Transactions.{fills, refusing, closing, holding, verdictOf, verdict, after}
-use Rattle.host.specs.Host.{fresh, openedOf, effect, takeIn, takeAll, accepting, byNumber, receiveOf, acknowledgementOf}
+use Rattle.host.specs.Host.{fresh, openedOf, effect, takeIn, takeAll, accepting, byNumber, receiveOf, acknowledgementFrom}
 use Rattle.card.specs.Window.{emptyWindow, held, beforeHeld, sealing, acknowledgedBy, releasing, acknowledging}
 use Rattle.card.specs.Sendings.{
   noSendings,
@@ -102,7 +102,7 @@ unfolding distance advance latest mark withMark leading trailingOnes marksOf lit
     needed nextHeader addressed follows messageAt messagesFrom headingOf readFrame frameHead messageHead laid frameOf
     ackFrame
     roomFor firstMessage nextMessage agrees termsRefusal addressRefusal fills refusing closing holding verdictOf
-    verdict after fresh openedOf effect takeIn takeAll accepting byNumber receiveOf acknowledgementOf emptyWindow held
+    verdict after fresh openedOf effect takeIn takeAll accepting byNumber receiveOf acknowledgementFrom emptyWindow held
     beforeHeld sealing acknowledgedBy releasing acknowledging noSendings openingRefusal opening takes adding delivered
     finishedBy passing finishing freshCard fits cardRefusal openCard openTransaction addRefusal messageOf builtSlot
     builtSlots withMessage addMessage sealRefusal sealFrame acknowledged readAcks frameIn showRefusal showFrame
