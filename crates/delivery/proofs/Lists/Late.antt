@@ -20,7 +20,9 @@ use Rattle.bitmap.proofs.Marks.{mark-marksOf, leading-fails}
 use Rattle.host.specs.Host.{Received, unchanged, refused, receiveOf}
 use Rattle.host.proofs.Receiving.{by-number-ahead}
 use Rattle.octets.specs.Octets.{little}
-use Rattle.card.specs.Window.{unreleased}
+use Rattle.card.specs.declared.SendWindow.{SendWindow}
+use Rattle.card.specs.Window.{unreleased, acknowledgedBy, releasing, acknowledging}
+use Rattle.card.specs.Card.{acknowledged}
 use Rattle.delivery.specs.Book.{
   MessageRecord,
   FrameRecord,
