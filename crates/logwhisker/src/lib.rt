@@ -3,21 +3,36 @@
 // specs/Face.antt says, which is what the theorem of the crate delivery is about.
 pub use card_build::OpenedTransaction;
 pub use card_build::SealedFrame;
+pub use card_send::Choice;
+pub use card_send::Part;
 pub use host::Acknowledgement;
 pub use host::Answer;
+pub use host::Pair;
+pub use host::Stepped;
+pub use refusal::class_number;
+pub use refusal::class_of;
 use seq::FrameNo;
 use seq::TransNo;
+pub use wire_layout::Layout;
+pub use wire_layout::layout_of;
 ghost use mathlib.Core.Path.{_≡_};
 ghost use Rattle.host_words.specs.Words.{pairOf};
 ghost use Rattle.card_words.specs.Words.{cardOf};
 ghost use Rattle.card.specs.Card.{openTransaction, sealFrame};
+ghost use Rattle.host.specs.Host.{steppedOf};
+ghost use Rattle.delivery.specs.System.{specifiedHost};
+ghost use Rattle.card_send.specs.Parts.{shownPart, chosenPart};
 ghost use Rattle.logwhisker.specs.Face.{
   hostOpened,
   received,
+  acknowledged,
   cardOpened,
   transactionOpened,
   messageAdded,
   frameSealed,
+  acksRead,
+  frameShown,
+  nextChosen,
 };
 
 // ---- the host, in 67 words
@@ -37,6 +52,30 @@ pub fn receive(words: &mut [u64; 67], frame: &[u8], memory: &mut [u8]) -> Answer
     ensures { λ _. ⌜ now (memory .exit) ≡ received (now (words .entry)) (now (frame .entry)) (now (memory .entry)) .memory ⌝ }
 {
     host_receive::receive_in_place(words, frame, memory)
+}
+
+// The acknowledgement that an answer calls for, from a host whose next message frame will have this number.
+pub fn acknowledge(words: &[u64; 67], answer: Answer, number: FrameNo) -> Acknowledgement
+    ensures { λ r. ⌜ r ≡ acknowledged (now (words .entry)) answer (number .0) ⌝ }
+{
+    host_answer::acknowledge_in_place(words, answer, number)
+}
+
+// ---- the host by value
+
+// Receives a frame with the pair as a value, which comes back with the answer.
+pub fn receive_by_value(pair: Pair, frame: &[u8], memory: &mut [u8]) -> Stepped
+    ensures { λ r. ⌜ r ≡ steppedOf (specifiedHost .receiving pair (now (frame .entry)) (now (memory .entry))) ⌝ }
+    ensures { λ _. ⌜ now (memory .exit) ≡ specifiedHost .receiving pair (now (frame .entry)) (now (memory .entry)) .memory ⌝ }
+{
+    host_receive::receive(pair, frame, memory)
+}
+
+// The acknowledgement that an answer calls for, from a pair as a value.
+pub fn acknowledge_by_value(pair: Pair, answer: Answer, number: FrameNo) -> Acknowledgement
+    ensures { λ r. ⌜ r ≡ specifiedHost .acknowledging pair answer (number .0) ⌝ }
+{
+    host_pair::acknowledge(pair, answer, number)
 }
 
 // ---- the card, in 85 words
@@ -89,4 +128,57 @@ pub fn seal_frame(words: &mut [u64; 85], slots: &[u8]) -> SealedFrame
     ensures { λ _. ⌜ cardOf (now (words .exit)) ≡ frameSealed (now (words .entry)) (now (slots .entry)) .card ⌝ }
 {
     card_build::seal_frame(words, slots)
+}
+
+// Reads the acknowledgements of an arriving frame.
+pub fn read_acknowledgements(words: &mut [u64; 85], frame: &[u8]) -> u8
+    ensures { λ r. ⌜ r ≡ acksRead (now (words .entry)) (now (frame .entry)) .refusal ⌝ }
+    ensures { λ _. ⌜ cardOf (now (words .exit)) ≡ acksRead (now (words .entry)) (now (frame .entry)) .card ⌝ }
+{
+    card_acks::read_acknowledgements(words, frame)
+}
+
+// Shows a held frame: a part of the slots, empty where the showing is refused.
+pub fn show_frame<'a>(words: &[u64; 85], slots: &'a [u8], number: FrameNo) -> &'a [u8]
+    ensures { λ r. ⌜ now r ≡ frameShown (now (words .entry)) (now (slots .entry)) (number .0) .part ⌝ }
+{
+    card_send::show_frame(words, slots, number)
+}
+
+// The refusal of showing a frame, 0 for none.
+pub fn show_refusal(words: &[u64; 85], slots: &[u8], number: FrameNo) -> u8
+    ensures { λ r. ⌜ r ≡ frameShown (now (words .entry)) (now (slots .entry)) (number .0) .refusal ⌝ }
+{
+    card_send::show_refusal(words, slots, number)
+}
+
+// Chooses what goes out next: the lent acknowledgement if it has 10 bytes, else the oldest held frame, each as a part of its own
+// buffer; an empty part where the choice is refused.
+pub fn choose_next<'a>(words: &[u64; 85], slots: &'a [u8], ack: &'a [u8]) -> &'a [u8]
+    ensures { λ r. ⌜ now r ≡ nextChosen (now (words .entry)) (now (slots .entry)) (now (ack .entry)) .part ⌝ }
+{
+    card_send::choose_next(words, slots, ack)
+}
+
+// The refusal of choosing, 0 for none.
+pub fn choose_refusal(words: &[u64; 85], slots: &[u8], ack: &[u8]) -> u8
+    ensures { λ r. ⌜ r ≡ nextChosen (now (words .entry)) (now (slots .entry)) (now (ack .entry)) .refusal ⌝ }
+{
+    card_send::choose_refusal(words, slots, ack)
+}
+
+// ---- parts as numbers, for callers that no reference can be handed back to
+
+// Where the part that show_frame hands out lies in the slots.
+pub fn show_part(words: &[u64; 85], slots: &[u8], number: FrameNo) -> Part
+    ensures { λ r. ⌜ r ≡ shownPart (now (words .entry)) (now (slots .entry)) (number .0) ⌝ }
+{
+    card_send::show_part(words, slots, number)
+}
+
+// Where the part that choose_next hands out lies, in the slots or in the lent acknowledgement.
+pub fn choose_part(words: &[u64; 85], slots: &[u8], ack: &[u8]) -> Choice
+    ensures { λ r. ⌜ r ≡ chosenPart (now (words .entry)) (now (slots .entry)) (now (ack .entry)) ⌝ }
+{
+    card_send::choose_part(words, slots, ack)
 }

@@ -274,7 +274,7 @@ module _ (l : Transactions) (ds : List Transaction) (es es′ : List MessageReco
     for-holding =
         subst
         (λ (o : Open).
-          TransactionsFor (record { lowest = l .lowest; closed = l .closed; table = set (l .table) k o }) ds es′)
+        TransactionsFor (record { lowest = l .lowest; closed = l .closed; table = set (l .table) k o }) ds es′)
         (sym left-is)
         (record {
           lowestIs = rw low-same (r .lowestIs);
