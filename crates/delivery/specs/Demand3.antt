@@ -148,12 +148,18 @@ NoByteTwice (w ∷ ws) = ApartFrom w ws × NoByteTwice ws
 abbrev pub writesMade : Book → ℕ → List Write
 writesMade b i = writesOf (transactionAt b i) i (acceptedMessages b)
 
+-- Where a message's data ends, and where a completion does.
+abbrev pub dataEnd : MessageRecord → ℕ
+dataEnd e = e .dataAddress + length (e .bytes)
+
+abbrev pub completionEnd : Transaction → ℕ
+completionEnd d = d .completionAddress + 4
+
 -- What the list has to keep to; b is the book after it. Every write lies inside memory, also one of no bytes and a
 -- completion that is not due yet.
 pub record WritesInside (b : Book) : Type 0 where
-  pub dataInside : (e : MessageRecord) → List·Memᴰ e (addedMessages b)
-      → e .dataAddress + length (e .bytes) ≤ length (b .start)
-  pub completionInside : (d : Transaction) → List·Memᴰ d (b .transactions) → d .completionAddress + 4 ≤ length (b .start)
+  pub dataInside : (e : MessageRecord) → List·Memᴰ e (addedMessages b) → dataEnd e ≤ length (b .start)
+  pub completionInside : (d : Transaction) → List·Memᴰ d (b .transactions) → completionEnd d ≤ length (b .start)
 
 pub record WritesApart (b : Book) : Type 0 where
   -- no transaction writes one byte twice

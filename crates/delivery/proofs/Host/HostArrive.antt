@@ -53,7 +53,7 @@ use Rattle.delivery.specs.Book.{
   markAccepted,
   enterArrival,
 }
-use Rattle.delivery.specs.Demand3.{WritesAllowed}
+use Rattle.delivery.specs.Demand3.{dataEnd, completionEnd, WritesAllowed}
 use Rattle.delivery.proofs.Book.Counts.{
   count,
   none-beyond,
@@ -265,9 +265,9 @@ module _ (h : Pair) (b : Book) (r : HostFor h b) (s : Sound b) (c : ℕ) (kept :
       go (e ∷ xs) m =
           let me : List·Memᴰ e (addedMessages b) = m e (List·Memᴰ·head refl) in
           let st : length (enterArrival b c .start) ≡ length (b .start) = ap length (start-arriving b c) in
-          let a : e .dataAddress + length (e .bytes) ≤ length (enterArrival b c .start) =
+          let a : dataEnd e ≤ length (enterArrival b c .start) =
           kept .inside .dataInside e (subst (List·Memᴰ e) (sym (added-arriving b c)) me) in
-          let d : transactionAt b (e .trans) .completionAddress + 4 ≤ length (enterArrival b c .start) =
+          let d : completionEnd (transactionAt b (e .trans)) ≤ length (enterArrival b c .start) =
           kept .inside .completionInside (transactionAt b (e .trans))
           (subst (List·Memᴰ (transactionAt b (e .trans))) (sym (transactions-arriving b c))
           (getD-mem (b .transactions) (e .trans) noTransaction (s .known e me))) in (

@@ -28,6 +28,8 @@ use Rattle.delivery.specs.Demand3.{
   AllApart,
   NoByteTwice,
   writesMade,
+  dataEnd,
+  completionEnd,
   WritesAllowed,
   outcomeOf,
   Guarantees,
@@ -106,10 +108,10 @@ noByteTwice-by (w ∷ ws) e =
 
 module _ (b : Book) where
   abbrev pub dataIn : MessageRecord → Bool
-  dataIn e = leb (e .dataAddress + length (e .bytes)) (length (b .start))
+  dataIn e = leb (dataEnd e) (length (b .start))
 
   abbrev pub completionIn : Transaction → Bool
-  completionIn d = leb (d .completionAddress + 4) (length (b .start))
+  completionIn d = leb (completionEnd d) (length (b .start))
 
   -- transaction j against those that were unfinished when it was opened
   abbrev pub apartAt : ℕ → Bool

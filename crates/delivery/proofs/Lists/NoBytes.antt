@@ -23,7 +23,16 @@ use Rattle.delivery.specs.Book.{
   completionWrite,
   writesOf,
 }
-use Rattle.delivery.specs.Demand3.{Apart, ApartFrom, AllApart, NoByteTwice, writesMade, WritesAllowed}
+use Rattle.delivery.specs.Demand3.{
+  Apart,
+  ApartFrom,
+  AllApart,
+  NoByteTwice,
+  writesMade,
+  dataEnd,
+  completionEnd,
+  WritesAllowed,
+}
 use Rattle.delivery.proofs.Book.AllFinished.{messagesIn-some}
 
 abbrev pub NoBytes : List MessageRecord → Type 0
@@ -95,8 +104,8 @@ due-from d d′ h true = ((λ x p q. omega arith), tt)
 due-from d d′ h false = tt
 
 module _ (b : Book) (empty : (e : MessageRecord) → List·Memᴰ e (addedMessages b) → e .bytes ≡ [])
-    (inMemory : (e : MessageRecord) → List·Memᴰ e (addedMessages b) → e .dataAddress ≤ length (b .start))
-    (completionIn : (d : Transaction) → List·Memᴰ d (b .transactions) → d .completionAddress + 4 ≤ length (b .start))
+    (inMemory : (e : MessageRecord) → List·Memᴰ e (addedMessages b) → dataEnd e ≤ length (b .start))
+    (completionIn : (d : Transaction) → List·Memᴰ d (b .transactions) → completionEnd d ≤ length (b .start))
     (inTurn : (i j : ℕ) → i < j → j < length (b .transactions)
     → List·Memᴰ i (transactionAt b j .unfinishedAtOpening)
     → transactionAt b i .completionAddress + 4 ≤ transactionAt b j .completionAddress) where
@@ -124,7 +133,7 @@ module _ (b : Book) (empty : (e : MessageRecord) → List·Memᴰ e (addedMessag
   unfolding writesOf
   allowed-without-bytes = record {
     inside = record {
-      dataInside = λ e m. omega (arith, inMemory e m, ap length (empty e m));
+      dataInside = inMemory;
       completionInside = completionIn;
     };
     apart = record {

@@ -53,7 +53,7 @@ use Rattle.delivery.specs.Book.{
   markAcknowledged,
   markAccepted,
 }
-use Rattle.delivery.specs.Demand3.{WritesAllowed}
+use Rattle.delivery.specs.Demand3.{completionEnd, WritesAllowed}
 use Rattle.delivery.proofs.Book.Counts.{count, not-full-none}
 use Rattle.delivery.proofs.Book.Writes.{ofTransaction-cons-same, ofTransaction-cons-other}
 use Rattle.delivery.proofs.Book.Sound.{lowUnfinished}
@@ -366,7 +366,7 @@ through-bare k (suc n) fs h =
 -- The completions of the transactions after the finished ones: each lies after those of the ones that were unfinished
 -- when it was opened.
 pub record Fitting (n : ℕ) (ts : List Transaction) : Type 0 where
-  pub inside : (d : Transaction) → List·Memᴰ d ts → d .completionAddress + 4 ≤ 8
+  pub inside : (d : Transaction) → List·Memᴰ d ts → completionEnd d ≤ 8
   pub after : (i j : ℕ) → j < length ts → List·Memᴰ i (getD ts j noTransaction .unfinishedAtOpening)
       → getD (spent n ts) i noTransaction .completionAddress + 4 ≤ getD ts j noTransaction .completionAddress
 
@@ -386,7 +386,7 @@ fitting-one n count value = record {
     only : Transaction
     only = record { count = count; completionAddress = 0; completionValue = value; unfinishedAtOpening = [] }
 
-    go : (d : Transaction) → (d ≡ only) ⊎ List·Memᴰ d [] → d .completionAddress + 4 ≤ 8
+    go : (d : Transaction) → (d ≡ only) ⊎ List·Memᴰ d [] → completionEnd d ≤ 8
     go d (inl q) = rw q (lit≤ tt)
     go d (inr m) = absurd (List·Memᴰ·not-nil m)
 
@@ -405,11 +405,11 @@ fitting-two n = record {
   after = λ i j h m. later i j h m;
 }
   where
-    last : (d : Transaction) → (d ≡ openedNext n) ⊎ List·Memᴰ d [] → d .completionAddress + 4 ≤ 8
+    last : (d : Transaction) → (d ≡ openedNext n) ⊎ List·Memᴰ d [] → completionEnd d ≤ 8
     last d (inl q) = rw q (lit≤ tt)
     last d (inr m) = absurd (List·Memᴰ·not-nil m)
 
-    go : (d : Transaction) → (d ≡ bare) ⊎ List·Memᴰ d (openedNext n ∷ []) → d .completionAddress + 4 ≤ 8
+    go : (d : Transaction) → (d ≡ bare) ⊎ List·Memᴰ d (openedNext n ∷ []) → completionEnd d ≤ 8
     go d (inl q) = rw q (lit≤ tt)
     go d (inr m) = last d (List·Memᴰ·cases-cons m)
 
@@ -431,10 +431,10 @@ pub page-allowed : (n : ℕ) (ts : List Transaction) (fs : List FrameRecord) →
 unfolding roundMemory
 page-allowed n ts fs t h hs ds ys =
     allowed-without-bytes (page n ts fs [] hs ds ys) (λ e m. through-bare 0 n fs h e m .0)
-    (λ e m. rw (through-bare 0 n fs h e m .1) (lit≤ tt)) (λ d m. inside d (spent-some n ts d m))
+    (λ e m. rw (through-bare 0 n fs h e m .0, through-bare 0 n fs h e m .1) (lit≤ tt)) (λ d m. inside d (spent-some n ts d m))
     (λ i j l k m. apart i j k m (decLt j n))
   where
-    inside : (d : Transaction) → (d ≡ bare) ⊎ List·Memᴰ d ts → d .completionAddress + 4 ≤ 8
+    inside : (d : Transaction) → (d ≡ bare) ⊎ List·Memᴰ d ts → completionEnd d ≤ 8
     inside d (inl q) = rw q (lit≤ tt)
     inside d (inr m) = t .inside d m
 
