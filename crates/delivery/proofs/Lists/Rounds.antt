@@ -431,7 +431,8 @@ pub page-allowed : (n : ℕ) (ts : List Transaction) (fs : List FrameRecord) →
 unfolding roundMemory
 page-allowed n ts fs t h hs ds ys =
     allowed-without-bytes (page n ts fs [] hs ds ys) (λ e m. through-bare 0 n fs h e m .0)
-    (λ e m. rw (through-bare 0 n fs h e m .0, through-bare 0 n fs h e m .1) (lit≤ tt)) (λ d m. inside d (spent-some n ts d m))
+    (λ e m. rw (through-bare 0 n fs h e m .0, through-bare 0 n fs h e m .1) (lit≤ tt))
+    (λ d m. inside d (spent-some n ts d m))
     (λ i j l k m. apart i j k m (decLt j n))
   where
     inside : (d : Transaction) → (d ≡ bare) ⊎ List·Memᴰ d ts → completionEnd d ≤ 8
