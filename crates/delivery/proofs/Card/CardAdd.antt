@@ -44,7 +44,7 @@ use Rattle.delivery.proofs.Host.HostStep.{wired, read-set, read-other, 
 use Rattle.delivery.proofs.Card.CardFor.{
   inFirst,
   inAll,
-  LatestIn,
+  LastMessageIn,
   TermsFor,
   SlotFor,
   frameBytes,
@@ -183,7 +183,7 @@ module _ (c : Card) (slots : List ℕ) (b : Book) (r : CardFor c slots b) (s : S
         addressIs = terms-for .addressIs;
         valueIs = terms-for .valueIs;
         addedIs = ap suc (terms-for .addedIs) ∙ sym count-more;
-        latestIs = λ p. latest-now;
+        lastIs = λ p. last-now;
       })
     where
       here : sendingAt (added-card .sendings) i ≡ oneMore told (c .window .next .0)
@@ -205,8 +205,8 @@ module _ (c : Card) (slots : List ℕ) (b : Book) (r : CardFor c slots b) (s : S
             count-append i (messagesIn anyFrame frames) (b .building),
           )
 
-      latest-now : LatestIn (c .window .next .0) (withAdded b e) i
-      latest-now =
+      last-now : LastMessageIn (c .window .next .0) (withAdded b e) i
+      last-now =
           record {
             frame = length (b .frames);
             isNumber = r .nextIs;
@@ -220,7 +220,7 @@ module _ (c : Card) (slots : List ℕ) (b : Book) (r : CardFor c slots b) (s : S
   old-terms k n l h =
       terms-same (sendingAt (c .sendings) k) (sendingAt (added-card .sendings) k) b (withAdded b e) k here refl
       (count-same k n)
-      latest-kept (r .termsAre k l h)
+      last-kept (r .termsAre k l h)
     where
       here : sendingAt (added-card .sendings) k ≡ sendingAt (c .sendings) k
       here =
@@ -230,9 +230,9 @@ module _ (c : Card) (slots : List ℕ) (b : Book) (r : CardFor c slots b) (s : S
           (slots-differ (lowUnfinished b) k i l (omega (arith, s .transFit)) (omega arith)
           (omega (arith, s .transFit, i-open)) n)
 
-      latest-kept : LatestIn (sendingAt (c .sendings) k .latest .0) b k
-          → LatestIn (sendingAt (c .sendings) k .latest .0) (withAdded b e) k
-      latest-kept f =
+      last-kept : LastMessageIn (sendingAt (c .sendings) k .latest .0) b k
+          → LastMessageIn (sendingAt (c .sendings) k .latest .0) (withAdded b e) k
+      last-kept f =
           record {
             frame = f .frame;
             isNumber = f .isNumber;

@@ -71,9 +71,9 @@ inFirst b i n = count i (messagesIn anyFrame (take n (b .frames)))
 abbrev pub inAll : Book → ℕ → ℕ
 inAll b i = count i (addedMessages b)
 
--- x is the number of the frame that the latest message of transaction i went into. The frame being built counts as the
+-- x is the number of the frame that the last message of transaction i went into. The frame being built counts as the
 -- next one.
-pub record LatestIn (x : ℕ) (b : Book) (i : ℕ) : Type 0 where
+pub record LastMessageIn (x : ℕ) (b : Book) (i : ℕ) : Type 0 where
   pub frame : ℕ
   pub isNumber : x ≡ frame % frameSpace
   pub atMost : frame ≤ length (b .frames)
@@ -85,7 +85,7 @@ pub record TermsFor (t : Sending) (b : Book) (i : ℕ) : Type 0 where
   pub addressIs : t .address ≡ transactionAt b i .completionAddress
   pub valueIs : t .value ≡ transactionAt b i .completionValue
   pub addedIs : t .added ≡ inAll b i
-  pub latestIs : 0 < inAll b i → LatestIn (t .latest .0) b i
+  pub lastIs : 0 < inAll b i → LastMessageIn (t .latest .0) b i
 
 abbrev pub frameBytes : Card → Book → ℕ → List ℕ
 frameBytes c b n = framed (c .own) (c .peer) (b .transactions) n (frameAt b n .messages)
@@ -147,7 +147,7 @@ slot-same c c′ slots b b′ n o p l z q f =
 
 -- a transaction with the same terms and messages
 pub terms-same : (t t′ : Sending) (b b′ : Book) (i : ℕ) → t′ ≡ t → transactionAt b′ i ≡ transactionAt b i
-    → inAll b′ i ≡ inAll b i → (LatestIn (t .latest .0) b i → LatestIn (t .latest .0) b′ i) → TermsFor t b i
+    → inAll b′ i ≡ inAll b i → (LastMessageIn (t .latest .0) b i → LastMessageIn (t .latest .0) b′ i) → TermsFor t b i
     → TermsFor t′ b′ i
 terms-same t t′ b b′ i e d n l f =
     record {
@@ -155,13 +155,13 @@ terms-same t t′ b b′ i e d n l f =
       addressIs = rw (e, d) (f .addressIs);
       valueIs = rw (e, d) (f .valueIs);
       addedIs = rw (e, n) (f .addedIs);
-      latestIs = λ p. rw e (l (f .latestIs (rw n at p)));
+      lastIs = λ p. rw e (l (f .lastIs (rw n at p)));
     }
 
 -- the latest message, where the frames hold the same messages
-pub latest-same : (x : ℕ) (b b′ : Book) (i : ℕ) → length (b′ .frames) ≡ length (b .frames)
-    → ((k : ℕ) → inFirst b′ i k ≡ inFirst b i k) → inAll b′ i ≡ inAll b i → LatestIn x b i → LatestIn x b′ i
-latest-same x b b′ i l taken all f =
+pub last-same : (x : ℕ) (b b′ : Book) (i : ℕ) → length (b′ .frames) ≡ length (b .frames)
+    → ((k : ℕ) → inFirst b′ i k ≡ inFirst b i k) → inAll b′ i ≡ inAll b i → LastMessageIn x b i → LastMessageIn x b′ i
+last-same x b b′ i l taken all f =
     record {
       frame = f .frame;
       isNumber = f .isNumber;
@@ -302,7 +302,7 @@ module _ (c : Card) (slots : List ℕ) (b : Book) (r : CardFor c slots b) (s : S
     old-terms i l h =
         terms-same (sendingAt (c .sendings) i) (sendingAt (opened-card .sendings) i) b b′ i here
         (old-transaction i h) refl
-        (latest-same (sendingAt (c .sendings) i .latest .0) b b′ i refl (λ k. refl) refl) (r .termsAre i l h)
+        (last-same (sendingAt (c .sendings) i .latest .0) b b′ i refl (λ k. refl) refl) (r .termsAre i l h)
       where
         here : sendingAt (opened-card .sendings) i ≡ sendingAt (c .sendings) i
         here =
@@ -319,7 +319,7 @@ module _ (c : Card) (slots : List ℕ) (b : Book) (r : CardFor c slots b) (s : S
           addressIs = sym (ap (λ (d : Transaction). d .completionAddress) new-transaction);
           valueIs = sym (ap (λ (d : Transaction). d .completionValue) new-transaction);
           addedIs = sym none-yet;
-          latestIs = λ p. absurd (omega (arith, none-yet));
+          lastIs = λ p. absurd (omega (arith, none-yet));
         })
       where
         here : sendingAt (opened-card .sendings) total ≡ newSending

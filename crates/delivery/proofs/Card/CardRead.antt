@@ -60,7 +60,7 @@ use Rattle.delivery.proofs.Host.HostStep.{wired}
 use Rattle.delivery.proofs.Card.CardFor.{
   inFirst,
   inAll,
-  LatestIn,
+  LastMessageIn,
   TermsFor,
   SlotFor,
   CardFor,
@@ -69,7 +69,7 @@ use Rattle.delivery.proofs.Card.CardFor.{
   unopened,
   slot-same,
   terms-same,
-  latest-same,
+  last-same,
 }
 
 module _ (c : Card) (slots : List ℕ) (b : Book) (r : CardFor c slots b) (s : Sound b) (x : AckRange)
@@ -205,7 +205,7 @@ module _ (c : Card) (slots : List ℕ) (b : Book) (r : CardFor c slots b) (s : S
         )))
 
     -- all are added: it was not finished, so that the frame of the latest was not released
-    module _ (all : inAll b k ≡ needed (transactionAt b k .count)) (f : LatestIn (terms .latest .0) b k) where
+    module _ (all : inAll b k ≡ needed (transactionAt b k .count)) (f : LastMessageIn (terms .latest .0) b k) where
       unreleased : releasedCount b ≤ f .frame
       unreleased = go (decLe (releasedCount b) (f .frame))
         where
@@ -247,7 +247,7 @@ module _ (c : Card) (slots : List ℕ) (b : Book) (r : CardFor c slots b) (s : S
         go (yes h) = not-yet h
         go (no n) =
             let all : inAll b k ≡ needed (transactionAt b k .count) = omega (arith, s .atMost k isOpen) in
-            all-added all (t .latestIs (omega (arith, needed-pos (transactionAt b k .count))))
+            all-added all (t .lastIs (omega (arith, needed-pos (transactionAt b k .count))))
 
   finished-below : (k : ℕ) → k < lowUnfinished b → finished b′ k ≡ true
   finished-below k h = finished-stays k (leading-holds (finished b) (length (b .transactions)) k h)
@@ -290,7 +290,7 @@ module _ (c : Card) (slots : List ℕ) (b : Book) (r : CardFor c slots b) (s : S
   terms-kept i =
       terms-same (sendingAt (c .sendings) i) (sendingAt (read-card .sendings) i) b b′ i refl (rw transactions-same)
       (ap (count i) added-same)
-      (latest-same (sendingAt (c .sendings) i .latest .0) b b′ i same-length (λ k. ap (count i) (taken-same k))
+      (last-same (sendingAt (c .sendings) i .latest .0) b b′ i same-length (λ k. ap (count i) (taken-same k))
       (ap (count i) added-same))
 
   pub card-read : CardFor (acknowledged c (x .first % frameSpace) (x .many)) slots b′

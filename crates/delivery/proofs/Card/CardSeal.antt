@@ -45,7 +45,7 @@ use Rattle.delivery.proofs.Card.CardFor.{
   frameBytes,
   inFirst,
   inAll,
-  LatestIn,
+  LastMessageIn,
   TermsFor,
   SlotFor,
   CardFor,
@@ -53,7 +53,7 @@ use Rattle.delivery.proofs.Card.CardFor.{
   unreleased-is,
   slot-same,
   terms-same,
-  latest-same,
+  last-same,
 }
 use Rattle.delivery.proofs.Card.CardAdd.{mod64, slots-differ64}
 
@@ -115,7 +115,7 @@ module _ (b b′ : Book) (sameTransactions : b′ .transactions ≡ b .transacti
       terms i =
           terms-same (sendingAt (c .sendings) i) (sendingAt (c .sendings) i) b b′ i refl
           (ap (λ (x : List Transaction). getD x i noTransaction) sameTransactions) (ap (count i) alike-added)
-          (latest-same (sendingAt (c .sendings) i .latest .0) b b′ i sameLength (λ k. ap (count i) (sameTaken k))
+          (last-same (sendingAt (c .sendings) i .latest .0) b b′ i sameLength (λ k. ap (count i) (sameTaken k))
           (ap (count i) alike-added))
 
 -- ---- sealing
@@ -251,8 +251,8 @@ module _ (c : Card) (slots : List ℕ) (b : Book) (r : CardFor c slots b) (s : S
     unfolding enterSealing
     all-frames k i u = rw (take-all k (b′ .frames) u, append-nil (messagesIn anyFrame (b′ .frames)))
 
-    latest-kept : (x i : ℕ) → LatestIn x b i → LatestIn x b′ i
-    latest-kept x i f =
+    last-kept : (x i : ℕ) → LastMessageIn x b i → LastMessageIn x b′ i
+    last-kept x i f =
         record {
           frame = f .frame;
           isNumber = f .isNumber;
@@ -269,7 +269,7 @@ module _ (c : Card) (slots : List ℕ) (b : Book) (r : CardFor c slots b) (s : S
     unfolding enterSealing
     terms-kept i =
         terms-same (sendingAt (c .sendings) i) (sendingAt (c .sendings) i) b b′ i refl refl (ap (count i) added-same)
-        (latest-kept (sendingAt (c .sendings) i .latest .0) i)
+        (last-kept (sendingAt (c .sendings) i .latest .0) i)
 
     pub card-sealed : CardFor sealed-card slots b′
     unfolding sealing enterSealing advance
