@@ -7,8 +7,6 @@ use mathlib.Core.List.{List}
 use Prim.Native.Nat.{ℕ, _%_, _≤_, _<_}
 use native.Mathlib.Decide.{decLe}
 use native.Mathlib.Omega.{arith}
-use borrow.Author.Tests.{eq-eqb, eqb-true}
-use lib.Dec.{eqb}
 use lib.ListN.{length, getD, set, length-set}
 use lib.Seq.{getD-set-same, getD-set-other}
 use Rattle.bitmap.specs.Marks.{mark, withMark}
@@ -19,7 +17,7 @@ use Rattle.host.specs.declared.Verdict.{Verdict}
 use Rattle.host.specs.Terms.{free}
 use Rattle.host_words.specs.Words.{entryOf, pairOf, HoldsEntry}
 use Rattle.host_words.proofs.Words.{entry-at, length-table}
-use Rattle.host_validate.specs.Validating.{current, lost, Notes}
+use Rattle.host_validate.specs.Validating.{current, Marks, Notes}
 use Rattle.host_validate.proofs.Alike.{Alike}
 
 alike-to : (a b c : Open) → b ≡ c → Alike a b → Alike a c
@@ -39,22 +37,7 @@ overlaid-start w kept =
       marked = λ l s h e. absurd (true≢false (sym e ∙ mark-of-zero s));
     }
 
--- what it is to be lost
-pub is-lost : (kept : List ℕ) (changed s : ℕ) → lost kept changed s ≡ true → length kept ≢ 67
-is-lost kept changed s e l = go (mark changed s) refl
-  where
-    go : (b : Bool) → mark changed s ≡ b → ⊥
-    go true z = true≢false (sym (rw (z, eq-eqb (length kept) 67 l) at e))
-    go false z = true≢false (sym (rw z at e))
-
-pub not-lost : (kept : List ℕ) (changed s : ℕ) → lost kept changed s ≡ false → mark changed s ≡ true → length kept ≡ 67
-not-lost kept changed s e m = go (eqb (length kept) 67) refl
-  where
-    go : (b : Bool) → eqb (length kept) 67 ≡ b → length kept ≡ 67
-    go true z = eqb-true (length kept) 67 z
-    go false z = absurd (true≢false (rw (m, z) at e))
-
--- an entry that is not lost is the one that the code reads
+-- a marked entry is kept: then the current one is the one that the code reads
 pub overlaid-current : {w kept : List ℕ} {changed : ℕ} {table : List Open} → Overlaid w kept changed table → (s : ℕ) → s < 32
     → (mark changed s ≡ true → length kept ≡ 67) → Alike (getD table s free) (current w kept changed s)
 overlaid-current {w} {kept} {changed} {table} g s h found = go (mark changed s) refl
@@ -62,6 +45,14 @@ overlaid-current {w} {kept} {changed} {table} g s h found = go (mark changed s) 
     go : (b : Bool) → mark changed s ≡ b → Alike (getD table s free) (cond b (entryOf kept s) (entryOf w s))
     go true e = g .marked (found e) s h e
     go false e = g .unmarked s h e
+
+-- an entry that is not marked is the words', and need not be kept
+module _ (w kept : List ℕ) (changed s : ℕ) (clear : mark changed s ≡ false) where
+  pub current-words : entryOf w s ≡ current w kept changed s
+  current-words = rw clear
+
+  pub need-not : mark changed s ≡ true → length kept ≡ 67
+  need-not m = absurd (true≢false (sym m ∙ clear))
 
 -- a message leaves its entry
 module _ {w kept : List ℕ} {changed : ℕ} {table : List Open} (g : Overlaid w kept changed table) (s : ℕ) (h : s < 32)
@@ -130,7 +121,11 @@ module _ {w kept : List ℕ} {changed : ℕ} {table : List Open} (g : Overlaid w
           sym (entry-at left k l) ∙ ap (λ (t : List Open). getD t k free) (table-is n)
           ∙ getD-set-other (pairOf kept .table) s k (v .entry) free ne ∙ entry-at kept k l
 
-  pub overlaid-turn : (left : List ℕ) (r : ℕ) → (v .done ≡ true → v .entry ≡ free) → length left ≡ length kept
-      → Notes kept changed s o v left r → Overlaid w left r new
-  overlaid-turn left r closes same (inl (d, z, e, q)) = rw (e, q) (stays (closes d) z)
-  overlaid-turn left r closes same (inr (p, q)) = rw q (moves left p same)
+  pub overlaid-turn : (left : List ℕ) (r : ℕ) → length left ≡ length kept → Notes kept changed s v left r → Overlaid w left r new
+  overlaid-turn left r same (p, q) = rw q (moves left p same)
+
+  -- nothing is kept
+  pub apart-turn : (r : ℕ) → length kept ≢ 67 → (v .done ≡ true → v .entry ≡ free) → Marks changed s o (v .done) r
+      → Overlaid w kept r new
+  apart-turn r none closes (inl (d, z, q)) = rw q (stays (closes d) z)
+  apart-turn r none closes (inr q) = rw q (moves kept (λ l. absurd (none l)) refl)

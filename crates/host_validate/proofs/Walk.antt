@@ -32,11 +32,11 @@ use Rattle.host_validate.specs.Validating.{
   validatedFrom,
   validatedOf,
   current,
-  lost,
+  Marks,
   Notes,
 }
 use Rattle.host_validate.proofs.Alike.{Alike, verdict-alike, done-free}
-use Rattle.host_validate.proofs.Overlay.{Overlaid, overlaid-start, overlaid-current, overlaid-turn, not-lost}
+use Rattle.host_validate.proofs.Overlay.{Overlaid, overlaid-start, overlaid-current, overlaid-turn, apart-turn}
 
 -- ---- a frame too long to be read
 
@@ -165,7 +165,7 @@ module _ {w kept f : List ℕ} {size lowest closed changed messages bytes comple
 
   -- a message was found, and judged as code does it
   module _ {h : MessageHeader} {len : ℕ} {more : Bool} {next : ℕ} {o : Open} {v : Verdict}
-      (x : IsWhole f at h len more next) (there : lost kept changed (h .trans .0 % 32) ≡ false)
+      (x : IsWhole f at h len more next) (there : mark changed (h .trans .0 % 32) ≡ true → length kept ≡ 67)
       (o-is : o ≡ current w kept changed (h .trans .0 % 32)) (v-is : v ≡ verdictOf lowest closed o h len size) where
     abbrev s : ℕ
     s = h .trans .0 % 32
@@ -180,7 +180,7 @@ module _ {w kept f : List ℕ} {size lowest closed changed messages bytes comple
     one-turn = g .is ∙ ap (λ (k : ℕ). validatedFrom k f size at now-at) (left .1)
 
     alike : Alike defined o
-    alike = rw o-is (overlaid-current (g .overlaid) s (omega arith) (not-lost kept changed s there))
+    alike = rw o-is (overlaid-current (g .overlaid) s (omega arith) there)
 
     same : (verdictOf lowest closed defined h len size .refusal ≡ verdictOf lowest closed o h len size .refusal)
         × (verdictOf lowest closed defined h len size .refusal ≡ 0
@@ -221,15 +221,12 @@ module _ {w kept f : List ℕ} {size lowest closed changed messages bytes comple
           ∙ sym (one-turn
           ∙ validated-last f size at now-at (left .0) (x .inside-frame) (sym refusal-is ∙ ok) (sym (x .more-is) ∙ z))
 
-      pub walking-on : (kept′ : List ℕ) (r : ℕ) → more ≡ true → length kept′ ≡ length kept → Notes kept changed s o v kept′ r
+      walked : (kept′ : List ℕ) (r : ℕ) → more ≡ true → Overlaid w kept′ r (set (g .table) s (v .entry))
           → Walking w kept′ f size (v .lowest .0) (v .closed) r (messages + 1) (bytes + len) (completed + cond (v .done) 1 0) next
-      walking-on kept′ r z long n =
+      walked kept′ r z overlaid =
           record {
             table = set (g .table) s (v .entry);
-            overlaid =
-                overlaid-turn (g .overlaid) s (omega arith) o v o-is kept′ r
-                (λ d. ap (λ (v : Verdict). v .entry) v-is
-                ∙ done-free lowest closed h len size o (sym (ap (λ (v : Verdict). v .done) v-is) ∙ d)) long n;
+            overlaid = overlaid;
             turns = left .0;
             enough = omega (arith, g .enough, x .next-beyond, left .1);
             is =
@@ -237,3 +234,17 @@ module _ {w kept f : List ℕ} {size lowest closed changed messages bytes comple
                 ∙ validated-more f size at now-at (left .0) (x .inside-frame) (sym refusal-is ∙ ok) (sym (x .more-is) ∙ z)
                 ∙ rw (← on-is, ← x .next-is);
           }
+
+      -- its entry is kept
+      pub walking-on : (kept′ : List ℕ) (r : ℕ) → more ≡ true → length kept′ ≡ length kept → Notes kept changed s v kept′ r
+          → Walking w kept′ f size (v .lowest .0) (v .closed) r (messages + 1) (bytes + len) (completed + cond (v .done) 1 0) next
+      walking-on kept′ r z long n =
+          walked kept′ r z (overlaid-turn (g .overlaid) s (omega arith) o v o-is kept′ r long n)
+
+      -- nothing is kept
+      pub walking-apart : (r : ℕ) → more ≡ true → length kept ≢ 67 → Marks changed s o (v .done) r
+          → Walking w kept f size (v .lowest .0) (v .closed) r (messages + 1) (bytes + len) (completed + cond (v .done) 1 0) next
+      walking-apart r z none m =
+          walked kept r z (apart-turn (g .overlaid) s (omega arith) o v o-is r none
+          (λ d. ap (λ (v : Verdict). v .entry) v-is
+          ∙ done-free lowest closed h len size o (sym (ap (λ (v : Verdict). v .done) v-is) ∙ d)) m)

@@ -3,7 +3,7 @@
 use Prim.Native.Nat.{ℕ, zero, suc, _+_, _%_}
 use mathlib.Core.Path.{_≡_}
 use mathlib.Core.Logic.{_⊎_}
-use mathlib.Core.Bool.{Bool, true, cond, not, _&&_}
+use mathlib.Core.Bool.{Bool, true, cond}
 use mathlib.Core.List.{List}
 use lib.Dec.{eqb, leb, ltb}
 use lib.ListN.{length}
@@ -15,7 +15,7 @@ use Rattle.host.specs.declared.Open.{Open}
 use Rattle.host.specs.declared.Verdict.{Verdict}
 use Rattle.host.specs.Transactions.{Transactions, verdict, after}
 use Rattle.host.specs.Host.{transactionsOf}
-use Rattle.host_words.specs.Words.{wordCount, entryOf, pairOf, HoldsEntry}
+use Rattle.host_words.specs.Words.{entryOf, pairOf, HoldsEntry}
 use Rattle.host_validate.specs.declared.Validated.{Validated}
 
 -- The messages judged so far: the transactions as they leave them, how many there are, their data bytes, and how many of them complete
@@ -85,23 +85,17 @@ validatedOf f t size =
 abbrev pub current : List ℕ → List ℕ → ℕ → ℕ → Open
 current w kept changed s = cond (mark changed s) (entryOf kept s) (entryOf w s)
 
--- Whether a changed entry was not kept: there are no words for it.
-abbrev pub lost : List ℕ → ℕ → ℕ → Bool
-lost kept changed s = mark changed s && not (eqb (length kept) wordCount)
+-- A message was judged: its entry is marked as changed, or it was empty and is empty again.
+abbrev pub Marks : ℕ → ℕ → Open → Bool → ℕ → Type 0
+Marks changed s o done r = ((done ≡ true) × (o .received ≡ 0) × (r ≡ changed)) ⊎ (r ≡ withMark 32 changed s)
 
--- A message was judged: its entry is kept and marked, or it was empty and is empty again.
-abbrev pub Notes : List ℕ → ℕ → ℕ → Open → Verdict → List ℕ → ℕ → Type 0
-Notes kept changed s o v left r =
-    ((v .done ≡ true) × (o .received ≡ 0) × (left ≡ kept) × (r ≡ changed))
-    ⊎ (HoldsEntry kept left s (v .entry) × (r ≡ withMark 32 changed s))
+-- Its entry is kept and marked.
+abbrev pub Notes : List ℕ → ℕ → ℕ → Verdict → List ℕ → ℕ → Type 0
+Notes kept changed s v left r = HoldsEntry kept left s (v .entry) × (r ≡ withMark 32 changed s)
 
--- What is found, or that an entry was met again which was not kept.
+-- What is found, or that an entry was met again which the frame had changed.
 abbrev pub metAgain : ℕ
 metAgain = 255
 
 abbrev pub Finds : List ℕ → List ℕ → ℕ → Validated → Type 0
 Finds w f size r = (r .refusal ≡ metAgain) ⊎ (r ≡ validatedOf f (transactionsOf (pairOf w)) size)
-
--- Nothing is lost where there are words to keep entries in.
-abbrev pub FindsAll : List ℕ → List ℕ → List ℕ → ℕ → Validated → Type 0
-FindsAll w kept f size r = length kept ≡ wordCount → r ≡ validatedOf f (transactionsOf (pairOf w)) size

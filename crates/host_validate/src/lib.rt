@@ -10,7 +10,8 @@ ghost use mathlib.Core.Bool.{cond};
 ghost use Prim.Native.Nat.{_+_, _%_, _≤_, _<_};
 ghost use Rattle.host.specs.Host.{transactionsOf};
 ghost use Rattle.host_words.specs.Words.{pairOf};
-ghost use Rattle.host_validate.specs.Validating.{refusedAt, validatedOf, current, lost, Notes, Finds, FindsAll};
+ghost use lib.ListN.{length};
+ghost use Rattle.host_validate.specs.Validating.{refusedAt, validatedOf, current, Marks, Notes, Finds};
 
 // What is found of a frame: a refusal, and then messages is the index of the message that it is about and all else is 0; or
 // none, and then the sums, and the transactions' window as it is after the frame.
@@ -23,7 +24,7 @@ pub struct Validated {
     pub closed: u32,
 }
 
-// In place of a refusal: an entry was met again that the frame had changed and that was not kept.
+// In place of a refusal: an entry was met again that the frame had changed.
 const MET_AGAIN: u8 = 255;
 
 // Refused, for the message at an index or as a whole.
@@ -100,16 +101,6 @@ fn passed(c: Counts, lowest: TransNo, closed: u32) -> Validated
     }
 }
 
-// Whether the entry was changed by the frame and there are no words that keep it.
-fn is_lost(kept: &[u64], changed: u32, number: u32) -> bool
-    ensures { λ r. ⌜ r ≡ lost (now (kept .entry)) changed (number % 32) ⌝ }
-{
-    if word32::is_marked(changed, number % 32) {
-        return kept.len() != host_words::WORDS;
-    }
-    false
-}
-
 // The entry as the frame's messages so far leave it.
 fn current_entry(words: &[u64], kept: &[u64], changed: u32, number: u32) -> Open
     ensures { λ r. ⌜ r ≡ current (now (words .entry)) (now (kept .entry)) changed (number % 32) ⌝ }
@@ -120,25 +111,31 @@ fn current_entry(words: &[u64], kept: &[u64], changed: u32, number: u32) -> Open
     host_words::entry(words, number)
 }
 
-// Keeps the entry that a message leaves and marks it as changed, but for one that was empty and is empty again.
-fn note(kept: &mut [u64], changed: u32, number: u32, o: Open, v: Verdict) -> u32
-    ensures { λ r. ⌜ Notes (now (kept .entry)) changed (number % 32) o v (now (kept .exit)) r ⌝ }
+// Keeps the entry that a message leaves, and marks it as changed.
+fn note(kept: &mut [u64], changed: u32, number: u32, v: Verdict) -> u32
+    ensures { λ r. ⌜ Notes (now (kept .entry)) changed (number % 32) v (now (kept .exit)) r ⌝ }
 {
-    if v.done {
-        if o.received == 0 {
-            return changed;
-        }
-    }
     let left = v.entry;
     host_words::put_entry(kept, number, left);
     word32::with_mark(changed, number % 32)
 }
 
+// The marks of changed entries after a message, which leaves one unmarked that was empty and is empty again.
+fn marked(changed: u32, number: u32, o: Open, done: bool) -> u32
+    ensures { λ r. ⌜ Marks changed (number % 32) o done r ⌝ }
+{
+    if done {
+        if o.received == 0 {
+            return changed;
+        }
+    }
+    word32::with_mark(changed, number % 32)
+}
+
 // Judges a frame's messages for a memory of size bytes, up to the first that is refused or passes the end (5), or that meets an
-// entry again which the frame changed and which was not kept; 2 where the frame is too long to be read.
-fn find(words: &[u64], kept: &mut [u64], f: &[u8], size: usize) -> Validated
+// entry again which the frame changed; 2 where the frame is too long to be read.
+fn find_apart(words: &[u64], f: &[u8], size: usize) -> Validated
     ensures { λ r. ⌜ Finds (now (words .entry)) (now (f .entry)) size r ⌝ }
-    ensures { λ r. ⌜ FindsAll (now (words .entry)) (now (kept .entry)) (now (f .entry)) size r ⌝ }
 {
     if wire::FRAME_MOST < f.len() {
         return refused_at(refusal::FRAME_TOO_LONG, 0);
@@ -154,9 +151,46 @@ fn find(words: &[u64], kept: &mut [u64], f: &[u8], size: usize) -> Validated
             Found::PastEnd => return refused_at(refusal::PAST_FRAME_END, counts.messages),
             Found::Whole(h, len, more, next) => {
                 let number = h.trans.0;
-                if is_lost(kept, changed, number) {
+                if word32::is_marked(changed, number % 32) {
                     return refused_at(MET_AGAIN, 0);
                 }
+                let o = host_words::entry(words, number);
+                let v = host_message::judge(lowest, closed, o, h, len, size);
+                if v.refusal != 0 {
+                    return refused_at(v.refusal, counts.messages);
+                }
+                lowest = TransNo(v.lowest.0);
+                closed = v.closed;
+                changed = marked(changed, number, o, v.done);
+                counts = counted(counts, len, v.done);
+                if !more {
+                    return passed(counts, lowest, closed);
+                }
+                at = next;
+            }
+        }
+    }
+}
+
+// The same, with words that keep the changed entries, so that one can be met again.
+fn find_kept(words: &[u64], kept: &mut [u64], f: &[u8], size: usize) -> Validated
+    requires { ⌜ length (now kept) ≡ 67 ⌝ }
+    ensures { λ r. ⌜ r ≡ validatedOf (now (f .entry)) (transactionsOf (pairOf (now (words .entry)))) size ⌝ }
+{
+    if wire::FRAME_MOST < f.len() {
+        return refused_at(refusal::FRAME_TOO_LONG, 0);
+    }
+    let mut lowest = host_words::lowest(words);
+    let mut closed = host_words::closed(words);
+    let mut changed: u32 = 0;
+    let mut counts = NONE;
+    let mut at = 10;
+    loop {
+        let found = wire_read::message_at(f, at);
+        match found {
+            Found::PastEnd => return refused_at(refusal::PAST_FRAME_END, counts.messages),
+            Found::Whole(h, len, more, next) => {
+                let number = h.trans.0;
                 let o = current_entry(words, kept, changed, number);
                 let v = host_message::judge(lowest, closed, o, h, len, size);
                 if v.refusal != 0 {
@@ -164,7 +198,7 @@ fn find(words: &[u64], kept: &mut [u64], f: &[u8], size: usize) -> Validated
                 }
                 lowest = TransNo(v.lowest.0);
                 closed = v.closed;
-                changed = note(kept, changed, number, o, v);
+                changed = note(kept, changed, number, v);
                 counts = counted(counts, len, v.done);
                 if !more {
                     return passed(counts, lowest, closed);
@@ -181,11 +215,10 @@ fn find(words: &[u64], kept: &mut [u64], f: &[u8], size: usize) -> Validated
 pub fn validate(words: &[u64], f: &[u8], size: usize) -> Validated
     ensures { λ r. ⌜ r ≡ validatedOf (now (f .entry)) (transactionsOf (pairOf (now (words .entry)))) size ⌝ }
 {
-    let mut none = [0u64; 1];
-    let found = find(words, &mut none, f, size);
+    let found = find_apart(words, f, size);
     if found.refusal != MET_AGAIN {
         return found;
     }
     let mut kept = [0u64; 67];
-    find(words, &mut kept, f, size)
+    find_kept(words, &mut kept, f, size)
 }
