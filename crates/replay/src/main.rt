@@ -223,7 +223,7 @@ fn main() {
     let mut frame = [0u8; 9001];
     let mut piece = io::large_buffer();
     let mut out = io::large_buffer();
-    let opened = host::open_pair(1, 2);
+    let opened = host_pair::open_pair(1, 2);
     let pair = opened.pair;
     let start = Replay {
         pair,

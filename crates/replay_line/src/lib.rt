@@ -32,7 +32,7 @@ pub fn answer_line(pair: Pair, line: Line, frame: &[u8], memory: &mut [u8]) -> S
             }),
         };
     }
-    reception::receive(pair, buffer::front(frame, line.len), memory)
+    host_receive::receive(pair, buffer::front(frame, line.len), memory)
 }
 
 // Writes an answer's line into out from at on, and answers the index behind it; where it does not fit, nothing is written and the

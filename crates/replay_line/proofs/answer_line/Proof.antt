@@ -10,7 +10,7 @@ use Rattle.replay_line.proofs.answer_line.Tie as tie
 use Rattle.replay_line.proofs.answer_line.Reads as reads
 use Rattle.replay_line.proofs.answer_line.Lts as lts
 use Rattle.hex_line.proofs.Line.is_refused.Reads as is-refused-reads
-use Rattle.reception.proofs.receive.Reads as receive-reads
+use Rattle.host_receive.proofs.receive.Reads as receive-reads
 use Rattle.buffer.proofs.front.Reads as front-reads
 
 is-refused-requires : tie.Need-is-refused-requires
