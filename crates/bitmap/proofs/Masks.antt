@@ -138,7 +138,8 @@ between-is width start end =
     (and-lt width upper (2 ^ width - 1 - lower) (below-lt width end) (omega (arith, pow-pos width)))
     (λ i l.
     mark-and upper (2 ^ width - 1 - lower) i
-    ∙ rw (mark-below width end i l, mark-not width lower i (below-lt width start) l, mark-below width start i l) (go i (decLt i start)))
+    ∙ rw (mark-below width end i l, mark-not width lower i (below-lt width start) l, mark-below width start i l)
+    (go i (decLt i start)))
   where
     upper : ℕ
     upper = marksBelow width end

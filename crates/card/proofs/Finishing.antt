@@ -88,15 +88,15 @@ module _ (s : Sendings) (low total : ℕ) (within : low ≤ total) (few : total 
       (below : (i : ℕ) → i < low → q i ≡ true) (stays : (i : ℕ) → p i ≡ true → q i ≡ true)
       (now : (i : ℕ) → low ≤ i → i < total → p i ≡ false → delivered (sendingAt s i) base next ≡ q i)
       (unopened : (i : ℕ) → total ≤ i → q i ≡ false) where
-    -- a place goes on with the numbers where those come round
-    place-is : (i : ℕ) → sendingAt s (s .lowest .0 + i) ≡ sendingAt s (low + i)
-    place-is i =
+    -- entries go on with the numbers where those come round
+    entry-is : (i : ℕ) → sendingAt s (s .lowest .0 + i) ≡ sendingAt s (low + i)
+    entry-is i =
         let e : (low % transSpace + i) % 32 ≡ (low + i) % 32 = omega arith in
         ap (λ (n : ℕ). getD (s .table) n noSending) (ap (λ (n : ℕ). (n + i) % 32) lowest-is ∙ e)
 
     finished-is : (i : ℕ) → finishedBy s base next i ≡ q (low + i)
     unfolding finishedBy
-    finished-is i = rw (marks-are i, place-is i) (go (p (low + i)) refl (decLt (low + i) total))
+    finished-is i = rw (marks-are i, entry-is i) (go (p (low + i)) refl (decLt (low + i) total))
       where
         go : (x : Bool) → p (low + i) ≡ x → Dec (low + i < total)
             → (ltb i (opened s) && (x || delivered (sendingAt s (low + i)) base next)) ≡ q (low + i)

@@ -123,10 +123,10 @@ before-stores s at n i [] h = refl
 before-stores s at n i (v ∷ vs) h =
     before-stores (set s i v) at n (suc i) vs (omega arith) ∙ before-store s at n i v h
 
-behind-stores : (s : List ℕ) (at i : ℕ) (vs : List ℕ) → i + length vs ≤ at → drop at (sets s i vs) ≡ drop at s
-behind-stores s at i [] h = refl
-behind-stores s at i (v ∷ vs) h =
-    behind-stores (set s i v) at (suc i) vs (omega arith) ∙ drop-set-lt at s i v (omega arith)
+after-stores : (s : List ℕ) (at i : ℕ) (vs : List ℕ) → i + length vs ≤ at → drop at (sets s i vs) ≡ drop at s
+after-stores s at i [] h = refl
+after-stores s at i (v ∷ vs) h =
+    after-stores (set s i v) at (suc i) vs (omega arith) ∙ drop-set-lt at s i v (omega arith)
 
 -- ---- the slots after a message is written
 
@@ -220,7 +220,7 @@ module _ (c : Card) (slots : List ℕ) (m : Message) where
             let d : num % 64 ≡ n % 64 → ⊥ = λ e. ne (sym e) in
             let g : num % 64 < n % 64 = omega arith in
             ap (take (c .limit))
-            (behind-stores slots (slotStart c n) (slotStart c num) written
+            (after-stores slots (slotStart c n) (slotStart c num) written
             (omega (arith, written-long, mul-le-mul-right (c .limit) g)))
 
 -- ---- the frame being built
@@ -259,15 +259,15 @@ module _ (c : Card) (slots : List ℕ) (m : Message) (ok : fits (c .limit) slots
   after = own-slot c slots m (buffer-long (c .limit) slots ok)
 
   -- the first one
-  pub first-place : c .used ≡ 0 → headerOffset c ≡ 10
+  pub first-offset : c .used ≡ 0 → headerOffset c ≡ 10
   unfolding nextHeader
-  first-place e = rw e
+  first-offset e = rw e
 
   pub built-first : c .used ≡ 0
       → take (endOf 10 m) (slotOf c (builtSlots c slots m) at) ≡ frameOf (c .peer) (c .own) at (m ∷ [])
   unfolding builtSlot
   built-first e =
-      let h : endOf 10 m ≤ c .limit = omega (arith, first-place e) in
+      let h : endOf 10 m ≤ c .limit = omega (arith, first-offset e) in
       rw (after, eq-eqb (c .used) 0 e) (first-built slot (c .peer) (c .own) at m (has-room (endOf 10 m) h))
 
   -- a later one
@@ -292,7 +292,7 @@ module _ (c : Card) (slots : List ℕ) (m : Message) (ok : fits (c .limit) slots
   built-more t [] k =
       let l : length (frameOf (c .peer) (c .own) at (m ∷ [])) ≡ endOf 10 m =
       length-frame (c .peer) (c .own) at (m ∷ []) ∙ length-laid-one 10 m in
-      let p : headerOffset c ≡ 10 = first-place k in
+      let p : headerOffset c ≡ 10 = first-offset k in
       (rw (p, l), p, rw l (built-first k))
   built-more t (x ∷ xs) k =
       let u : c .used ≡ 10 + length (laid 10 (x ∷ xs)) = k .0 ∙ length-frame (c .peer) (c .own) at (x ∷ xs) in

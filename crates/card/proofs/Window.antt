@@ -136,7 +136,7 @@ module _ (w : SendWindow) (released sealed : ℕ) (within : released ≤ sealed)
     q-beyond : (n : ℕ) → sealed ≤ n → q n ≡ false
     q-beyond n h = after n ∙ rw (unsealed n h, le-ltb n sealed h)
 
-    -- no unsealed frame is acknowledged, so that it is one whether marks are asked before or behind
+    -- an unsealed frame has no mark, so that it is one whether sealed ones are asked for before the marks or after them
     by-parts : (n : ℕ) (x : Bool) → (ltb n sealed && (p n || x)) ≡ (p n || (ltb n sealed && x))
     by-parts n x = go (decLt n sealed)
       where

@@ -8,7 +8,7 @@ use lib.ListN.{length, take, drop}
 use lib.Seq.{sets}
 use Rattle.wire.specs.Format.{Message, nextHeader, frameMost}
 use Rattle.wire.specs.Reading.{addressed, readFrame, refusalOf, ackStart, ackCount}
-use Rattle.wire.specs.Writing.{endOf, firstMessage, nextMessage}
+use Rattle.wire.specs.Writing.{firstMessage, nextMessage}
 use Rattle.card.specs.Window.{
   emptyWindow,
   unreleased,

@@ -41,13 +41,13 @@ pub record Counted (e : Sending) : Type 0 where
 
 -- The transactions.
 pub record Orderly (s : Sendings) : Type 0 where
-  -- the numbers fit their words, and the table has its 32 places
+  -- the numbers fit their words, and the table has its 32 entries
   pub next-fits : s .next .0 < transSpace
   pub lowest-fits : s .lowest .0 < transSpace
   pub finished-fits : s .finished < 2 ^ 32
-  pub places : length (s .table) ≡ 32
+  pub entries : length (s .table) ≡ 32
   pub each : (k : ℕ) → Counted (getD (s .table) k noSending)
-  -- each one from the lowest unfinished one on has a place of its own
+  -- each one from the lowest unfinished one on has an entry of its own
   pub few : opened s ≤ 32
   -- only an opened one is finished, and the lowest unfinished one is not
   pub unopened-clear : (i : ℕ) → opened s ≤ i → mark (s .finished) i ≡ false

@@ -1,5 +1,5 @@
 -- The card's transactions: opening one, adding a message to one, and which of them are finished.
--- They have a window of 32 from the lowest unfinished one on; each is in the place that its number modulo 32 gives.
+-- They have a window of 32 from the lowest unfinished one on; each has the table's entry that its number modulo 32 gives.
 use Prim.Native.Nat.{ℕ, suc, _+_, _%_}
 use mathlib.Core.Bool.{Bool, cond, _&&_, _||_}
 use lib.Dec.{eqb, ltb}

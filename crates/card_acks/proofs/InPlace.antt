@@ -64,7 +64,8 @@ module _ (base start count d : ℕ) (b : base < frameSpace) (s : start < frameSp
 
   pub covered-round : 65536 < end → bitOr run (marksBelow 64 (end - 65536)) ≡ marksOf 64 (coveredBy base start count)
   covered-round h =
-      marks-are 64 (bitOr run low) (coveredBy base start count) (or-lt 64 run low (between-lt 64 d end) (below-lt 64 (end - 65536)))
+      marks-are 64 (bitOr run low) (coveredBy base start count)
+      (or-lt 64 run low (between-lt 64 d end) (below-lt 64 (end - 65536)))
       (λ i l. mark-or run low i ∙ rw (mark-between 64 d end i l, mark-below 64 (end - 65536) i l, round i) (sym (as-run i l)))
     where
       low : ℕ

@@ -173,7 +173,7 @@ fn header_of(words: &[u64], t: TransNo, at: u32) -> MessageHeader
     }
 }
 
-// Writes a message into a slot: the first one with the frame's header, from one ID to another, a later one behind those so far.
+// Writes a message into a slot: the first one with the frame's header, from one ID to another, a later one after those so far.
 fn write_in_slot(
     slot: &mut [u8],
     to: u16,
@@ -225,7 +225,7 @@ fn count_message(words: &mut [u64], t: TransNo, payload: &[u8])
         (withMessage (cardOf (now (words .entry))) (t .0) (now (payload .entry))) ⌝ }
 {
     let h = card_words::head_of(words);
-    let number = h.next;
+    let frame = h.next;
     let e = card_words::sending_at(words, t);
     card_words::put_sending(
         words,
@@ -235,7 +235,7 @@ fn count_message(words: &mut [u64], t: TransNo, payload: &[u8])
             value: e.value,
             count: e.count,
             added: e.added + 1,
-            latest: number,
+            latest: frame,
         },
     );
     let start = header_offset(h.used);
@@ -293,11 +293,11 @@ pub fn seal_frame(words: &mut [u64], slots: &[u8]) -> SealedFrame
             number: FrameNo(0),
         };
     }
-    let refusal = seal_refusal(words, slots);
+    let reason = seal_refusal(words, slots);
     let h = card_words::head_of(words);
-    if refusal != 0 {
+    if reason != 0 {
         return SealedFrame {
-            refusal,
+            refusal: reason,
             number: FrameNo(0),
         };
     }

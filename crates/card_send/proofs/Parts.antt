@@ -1,14 +1,14 @@
 -- What is held, shown and chosen of a card in lent words, and that offset and length are those of the part itself.
 -- Assumes nothing.
-use mathlib.Core.Path.{_≡_, refl, sym, ap, _∙_}
-use mathlib.Core.Bool.{Bool, true, false, cond, not, _&&_, true≢false}
+use mathlib.Core.Path.{_≡_, refl, sym, _∙_}
+use mathlib.Core.Bool.{Bool, true, false, cond, not, true≢false}
 use mathlib.Core.List.{List, []}
 use Prim.Native.Nat.{ℕ, _+_, _*_, _%_, _≤_, _<_}
 use native.Mathlib.Decide.{decLe}
 use native.Mathlib.Omega.{arith}
 use borrow.Author.Tests.{lt-ltb, le-ltb, le-leb, lt-leb, eqb-true}
 use lib.Dec.{eqb, ltb}
-use lib.ListN.{length, take}
+use lib.ListN.{length}
 use lib.Seq.{take-all}
 use Rattle.seq.specs.Ring.{frameSpace, distance, advance}
 use Rattle.bitmap.specs.Marks.{mark, trailingOnes}
@@ -16,7 +16,7 @@ use Rattle.card.specs.declared.Card.{Card}
 use Rattle.card.specs.Window.{sizeOf, held, beforeHeld, anyHeld, oldestHeld}
 use Rattle.card.specs.Card.{slotStart, frameIn, showRefusal, showFrame, isAck, chooseRefusal, chooseNext}
 use Rattle.card_words.specs.declared.Head.{Head}
-use Rattle.card_words.specs.Words.{cardWords, cardOf, headOf, orNotCard}
+use Rattle.card_words.specs.Words.{cardWords, cardOf, headOf}
 use Rattle.card_words.proofs.Heads.{unreleased-read}
 use Rattle.card_send.specs.declared.Part.{Part}
 use Rattle.card_send.specs.declared.Choice.{Choice}
@@ -47,12 +47,14 @@ module _ (w : List ℕ) (h : Head) (head-is : h ≡ headOf (cardOf w)) where
     pub any-is : (r : ℕ) → r ≡ beforeHeld (cardOf w .window) → ltb r u ≡ anyHeld (cardOf w .window)
     any-is r is = rw (is, unreleased-read w h head-is u u-is)
 
-  pub oldest-is : (r n : ℕ) → r ≡ beforeHeld (cardOf w .window) → n ≡ advance frameSpace (h .base .0) r → n ≡ oldestHeld (cardOf w .window)
+  pub oldest-is : (r n : ℕ) → r ≡ beforeHeld (cardOf w .window) → n ≡ advance frameSpace (h .base .0) r
+      → n ≡ oldestHeld (cardOf w .window)
   oldest-is r n is n-is = n-is ∙ rw (is, head-is)
 
-  -- ---- a sealed frame's place in the slots, by the head
+  -- ---- where a sealed frame lies in the slots, by the head
 
-  module _ (slots : List ℕ) (n start size : ℕ) (start-is : start ≡ n % 64 * h .limit) (size-is : size ≡ sizeOf (cardOf w .window) n) where
+  module _ (slots : List ℕ) (n start size : ℕ) (start-is : start ≡ n % 64 * h .limit)
+      (size-is : size ≡ sizeOf (cardOf w .window) n) where
     starts : start ≡ slotStart (cardOf w) n
     starts = rw head-is at start-is
 
@@ -105,7 +107,8 @@ pub record ChoiceIs (k : Choice) (slots ack out : List ℕ) : Type 0 where
 of-slots : (p : Part) (slots ack out : List ℕ) → PartIs p slots out → ChoiceIs (record { lent = false; part = p }) slots ack out
 of-slots p slots ack out k = record { whole = λ e. absurd (true≢false (sym e)); some = λ e. k; is = k .is }
 
-of-ack : (slots ack : List ℕ) → isAck ack ≡ true → ChoiceIs (record { lent = true; part = record { offset = 0; len = 10 } }) slots ack ack
+of-ack : (slots ack : List ℕ) → isAck ack ≡ true
+    → ChoiceIs (record { lent = true; part = record { offset = 0; len = 10 } }) slots ack ack
 of-ack slots ack e =
     let ten : length ack ≡ 10 = eqb-true (length ack) 10 e in
     record { whole = λ e. refl; some = λ e. absurd (true≢false e); is = take-all 10 ack (omega arith) }
@@ -123,4 +126,6 @@ chosen-is w slots ack = go (eqb (length w) cardWords) refl (eqb (chooseRefusal (
     go true x false y d z = rw (x, y) (of-slots noPart slots ack [] (none-is slots))
     go true x true y true z = rw (x, y, z) (of-ack slots ack z)
     go true x true y false z =
-        rw (x, y, z) (of-slots (framePart (cardOf w) slots oldest) slots ack (frameIn (cardOf w) slots oldest) (frame-is (cardOf w) slots oldest))
+        rw (x, y, z)
+        (of-slots (framePart (cardOf w) slots oldest) slots ack (frameIn (cardOf w) slots oldest)
+        (frame-is (cardOf w) slots oldest))

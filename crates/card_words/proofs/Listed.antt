@@ -1,12 +1,11 @@
 -- The list of what a function gives from an index on, element by element.
 -- Assumes nothing.
-use mathlib.Core.Path.{_≡_, refl, sym, _∙_, ap}
+use mathlib.Core.Path.{_≡_, refl, _∙_, ap}
 use mathlib.Core.Logic.{_≢_}
-use mathlib.Core.List.{List, [], _∷_}
 use Prim.Native.Nat.{ℕ, zero, suc, _+_, _≤_, _<_}
 use native.Mathlib.Nat.{not-suc-le-zero}
 use native.Mathlib.Omega.{arith}
-use lib.ListN.{length, getD, set, replicate}
+use lib.ListN.{getD, set, replicate}
 use Rattle.card_words.specs.Words.{listed}
 
 pub listed-at : {A : Type 0} (f : ℕ → A) (d : A) (n k j : ℕ) → j < n → getD (listed f k n) j d ≡ f (k + j)

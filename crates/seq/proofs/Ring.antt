@@ -133,7 +133,8 @@ module _ (w : ℕ) (pos : 0 < w) where
       or-false true = refl
       or-false false = refl
 
-      go : Dec (d ≤ i) → ltb (distance w start ((base + i) % w)) count ≡ ((leb d i && ltb i (d + count)) || ltb (i + w) (d + count))
+      go : Dec (d ≤ i) → ltb (distance w start ((base + i) % w)) count
+          ≡ ((leb d i && ltb i (d + count)) || ltb (i + w) (d + count))
       go (yes l) =
           let e : i - d + d ≡ i = omega arith in
           rw (away 0 (i - d) (omega arith) (omega arith), le-leb d i l, le-ltb (i + w) (d + count) (omega arith))

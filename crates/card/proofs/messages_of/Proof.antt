@@ -1,6 +1,5 @@
 -- `messages_of`: the definition, by its two cases.
 -- Assumes nothing.
-use mathlib.Core.Path.{sym}
 use borrow.Author.Tests.{eq-eqb, ne-eqb}
 use Rattle.wire.specs.Format.{needed}
 use Rattle.card.proofs.messages_of.Statement.{statement}

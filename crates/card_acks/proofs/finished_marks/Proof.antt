@@ -20,7 +20,8 @@ use Rattle.bitmap.proofs.word32.with_mark.Reads as with-mark-reads
 use Rattle.seq.proofs.TransNo.distance.Reads as distance-reads
 
 abbrev Inv-loop : tie.InvT-loop
-Inv-loop words base next h lowest opened finished₀ i₀ finished i = MarkedUpTo 32 (finishedBy (cardOf words .sendings) (base .0) (next .0)) i finished
+Inv-loop words base next h lowest opened finished₀ i₀ finished i =
+    MarkedUpTo 32 (finishedBy (cardOf words .sendings) (base .0) (next .0)) i finished
 
 abbrev μ-loop : tie.MeasureT-loop
 μ-loop words base next h lowest opened finished₀ i₀ finished i = opened - i

@@ -1,6 +1,6 @@
 -- `read_acknowledgements`: refused as a frame is, or the range of its header.
 -- Assumes nothing.
-use mathlib.Core.Path.{refl, sym, ap, _∙_}
+use mathlib.Core.Path.{refl, sym, ap}
 use borrow.Author.Tests.{eq-eqb, ne-eqb}
 use Rattle.card.specs.declared.Stepped.{Stepped}
 use Rattle.card_acks.proofs.InPlace.{reading-refused, reading-done}

@@ -36,8 +36,8 @@ returns-2 c =
     let q = c .before in
     let m = q .before .before .before in
     let a = m .before .before .before .before .args in
-    let done = adding-refused (cardOf (a .words .now)) (a .slots .now) (a .t .0) (a .at) (a .payload .now) _ (q .add-refusal .ensures)
-    (c .if2 .taken) in (
+    let done = adding-refused (cardOf (a .words .now)) (a .slots .now) (a .t .0) (a .at) (a .payload .now) _
+    (q .add-refusal .ensures) (c .if2 .taken) in (
       rw (eq-eqb _ 85 (m .if1 .left), done),
       ((λ l. sym (ap (λ (x : Added). x .step .card) done), λ n. refl), rw (eq-eqb _ 85 (m .if1 .left), done)),
     )

@@ -74,7 +74,8 @@ returns-3 c =
     rw (
       fit (a .words .now) _ h (a .slots .now) _ (f .is-fitting .ensures) (i .if1 .left),
       sym (k .is-taking .ensures) ∙ not-false _ (o .if2 .left),
-      bare-is (a .words .now) _ h (a .t .0) (length (a .payload .now)) _ _ (b .before .sending-at .ensures) (b .is-data-for-bare .ensures)
+      bare-is (a .words .now) _ h (a .t .0) (length (a .payload .now)) _ _ (b .before .sending-at .ensures)
+          (b .is-data-for-bare .ensures)
           ∙ c .if3 .taken,
     )
 
@@ -97,7 +98,8 @@ returns-4 c =
     rw (
       fit (a .words .now) _ h (a .slots .now) _ (f .is-fitting .ensures) (i .if1 .left),
       sym (k .is-taking .ensures) ∙ not-false _ (o .if2 .left),
-      bare-is (a .words .now) _ h (a .t .0) (length (a .payload .now)) _ _ (b .before .sending-at .ensures) (b .is-data-for-bare .ensures)
+      bare-is (a .words .now) _ h (a .t .0) (length (a .payload .now)) _ _ (b .before .sending-at .ensures)
+          (b .is-data-for-bare .ensures)
           ∙ x .if3 .left,
       slots-taken (a .words .now) _ h _ (d .distance .ensures) (c .if4 .taken),
     )
@@ -123,7 +125,8 @@ returns-5 c =
     rw (
       fit (a .words .now) _ h (a .slots .now) _ (f .is-fitting .ensures) (i .if1 .left),
       sym (k .is-taking .ensures) ∙ not-false _ (o .if2 .left),
-      bare-is (a .words .now) _ h (a .t .0) (length (a .payload .now)) _ _ (b .before .sending-at .ensures) (b .is-data-for-bare .ensures)
+      bare-is (a .words .now) _ h (a .t .0) (length (a .payload .now)) _ _ (b .before .sending-at .ensures)
+          (b .is-data-for-bare .ensures)
           ∙ x .if3 .left,
       slot-free (a .words .now) _ h _ (d .distance .ensures) (q .if4 .left),
       ends-at (a .words .now) _ h (length (a .payload .now)) _ (r .is-past-limit .ensures) ∙ c .if5 .taken,
@@ -147,7 +150,8 @@ returns-6 c =
     rw (
       fit (a .words .now) _ h (a .slots .now) _ (f .is-fitting .ensures) (i .if1 .left),
       sym (k .is-taking .ensures) ∙ not-false _ (o .if2 .left),
-      bare-is (a .words .now) _ h (a .t .0) (length (a .payload .now)) _ _ (b .before .sending-at .ensures) (b .is-data-for-bare .ensures)
+      bare-is (a .words .now) _ h (a .t .0) (length (a .payload .now)) _ _ (b .before .sending-at .ensures)
+          (b .is-data-for-bare .ensures)
           ∙ x .if3 .left,
       slot-free (a .words .now) _ h _ (d .distance .ensures) (q .if4 .left),
       ends-at (a .words .now) _ h (length (a .payload .now)) _ (r .is-past-limit .ensures) ∙ c .if5 .left,

@@ -1,4 +1,4 @@
--- `header_offset`: the next header behind what is built.
+-- `header_offset`: the next header past what is built.
 -- Assumes nothing.
 use native.Mathlib.Omega.{arith}
 use mathlib.Core.Path.{_∙_}

@@ -1,6 +1,6 @@
 -- `open_transaction`: the next number, unless the window is full.
 -- Assumes nothing.
-use mathlib.Core.Path.{refl, sym, ap, _∙_}
+use mathlib.Core.Path.{refl, sym, ap}
 use borrow.Author.Tests.{eq-eqb, ne-eqb}
 use Rattle.card.specs.declared.TransOpened.{TransOpened}
 use Rattle.card_build.specs.Building.{openedIn}

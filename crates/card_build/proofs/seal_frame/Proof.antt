@@ -1,6 +1,6 @@
 -- `seal_frame`: the frame being built gets the next number.
 -- Assumes nothing.
-use mathlib.Core.Path.{refl, sym, ap, _∙_}
+use mathlib.Core.Path.{refl, sym, ap}
 use borrow.Author.Tests.{eq-eqb, ne-eqb}
 use Rattle.card.specs.declared.Sealed.{Sealed}
 use Rattle.card_build.specs.Building.{sealedIn}

@@ -1,7 +1,7 @@
 -- `write_message`: the slot is lent to the frame writer and comes back written.
 -- Assumes nothing.
-use mathlib.Core.Path.{_≡_, ap, _∙_}
-use Prim.Native.Nat.{ℕ, _+_, _-_, _*_, _%_}
+use mathlib.Core.Path.{_≡_}
+use Prim.Native.Nat.{_+_, _-_}
 use native.Mathlib.Omega.{arith}
 use Rattle.card.specs.Card.{slotStart}
 use Rattle.card.proofs.Slots.{buffer-long, slot-inside}
@@ -44,7 +44,8 @@ part-write-in-slot-end c =
     let h = s .before in
     let a = h .before .before .before .before .args in
     let n = cardOf (a .words .now) .window .next .0 in
-    let start : s .slot-start .result ≡ slotStart (cardOf (a .words .now)) n = rw (h .head-of .ensures) at (s .slot-start .ensures .0) in
+    let start : s .slot-start .result ≡ slotStart (cardOf (a .words .now)) n =
+    rw (h .head-of .ensures) at (s .slot-start .ensures .0) in
     let limit : h .head-of .result .limit ≡ cardOf (a .words .now) .limit = rw (h .head-of .ensures) in
     let long = buffer-long (cardOf (a .words .now) .limit) (a .slots .now) (h .before .before .before .before .pre) in
     omega (arith, start, limit, slot-inside (cardOf (a .words .now)) (a .slots .now) long n)

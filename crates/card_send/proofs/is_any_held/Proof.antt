@@ -22,7 +22,8 @@ distance-requires c κs = search needs
 returns : tie.Need-returns
 returns c =
     let s = c .before .before .before .before in
-    any-is (s .before .before .args .words .now) _ (s .head-of .ensures) _ (c .distance .ensures) _ (c .before .before-held .ensures)
+    any-is (s .before .before .args .words .now) _ (s .head-of .ensures) _ (c .distance .ensures) _
+    (c .before .before-held .ensures)
 
 pub is-any-held-spec : {M : Type 1} → statement M
 is-any-held-spec =

@@ -24,7 +24,8 @@ returns c =
     let d = c .before in
     let s = d .before .before .before .before in
     let a = s .before .before .args in
-    not-sealed (a .words .now) _ (s .head-of .ensures) _ (d .distance2 .ensures) (a .n .0) _ (d .before .distance .ensures) (c .if1 .taken)
+    not-sealed (a .words .now) _ (s .head-of .ensures) _ (d .distance2 .ensures) (a .n .0) _ (d .before .distance .ensures)
+    (c .if1 .taken)
 
 cast-is-marked : tie.Need-cast-is-marked
 cast-is-marked c = search needs

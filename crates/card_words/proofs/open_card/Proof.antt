@@ -1,6 +1,6 @@
 -- `open_card`: every word 0, then the head.
 -- Assumes nothing.
-use mathlib.Core.Path.{_≡_, refl, sym, ap, _∙_}
+use mathlib.Core.Path.{refl, sym, ap, _∙_}
 use native.Mathlib.Omega.{arith}
 use borrow.Author.Tests.{eq-eqb, ne-eqb}
 use Rattle.card.specs.declared.Stepped.{Stepped}
@@ -63,7 +63,8 @@ returns-3 c =
     let done = opening-done (a .own) (a .peer) (a .limit) (a .slots .now) _ (m .card-refusal .ensures) (s .if2 .left) in (
       rw (eq-eqb _ 85 (m .before .if1 .left), done),
       (
-        λ l. p .put-head .ensures .0 (search needs) ∙ opened-card (a .own) (a .peer) (a .limit) _ (blank-card _ (z .clear .ensures))
+        λ l. p .put-head .ensures .0 (search needs)
+            ∙ opened-card (a .own) (a .peer) (a .limit) _ (blank-card _ (z .clear .ensures))
             ∙ sym (ap (λ (s : Stepped). s .card) done),
         λ n. absurd (n (m .before .if1 .left)),
       ),

@@ -51,7 +51,8 @@ returns-2 c =
     let m = one .before .before in
     let a = m .before .before .before .before .before .args in (
       λ l. rw (last .put2 .ensures, one .put .ensures)
-          (entered-card (a .w .now) (a .t .0) _ _ l (a .e) (sending-by _ _ (a .e) (m .before .two .ensures) (m .four .ensures .1))),
+          (entered-card (a .w .now) (a .t .0) _ _ l (a .e)
+          (sending-by _ _ (a .e) (m .before .two .ensures) (m .four .ensures .1))),
       λ n. absurd (n (m .before .before .before .if1 .left)),
     )
 

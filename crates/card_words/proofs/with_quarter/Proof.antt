@@ -26,7 +26,12 @@ returns : tie.Need-returns
 returns c =
     let s = c .before in
     c .four .ensures .0
-    ∙ rw (s .quarter3 .ensures, s .before .quarter2 .ensures, s .before .before .quarter .ensures, s .before .before .before .if1 .taken)
+    ∙ rw (
+      s .quarter3 .ensures,
+      s .before .quarter2 .ensures,
+      s .before .before .quarter .ensures,
+      s .before .before .before .if1 .taken,
+    )
 
 quarter-requires-4 : tie.Need-quarter-requires-4
 quarter-requires-4 c κs = search needs
@@ -44,7 +49,12 @@ returns-2 : tie.Need-returns-2
 returns-2 c =
     let s = c .before in
     c .four2 .ensures .0
-    ∙ rw (s .quarter6 .ensures, s .before .quarter5 .ensures, s .before .before .quarter4 .ensures, s .before .before .before .if2 .taken)
+    ∙ rw (
+      s .quarter6 .ensures,
+      s .before .quarter5 .ensures,
+      s .before .before .quarter4 .ensures,
+      s .before .before .before .if2 .taken,
+    )
 
 quarter-requires-7 : tie.Need-quarter-requires-7
 quarter-requires-7 c κs = search needs
@@ -62,7 +72,12 @@ returns-3 : tie.Need-returns-3
 returns-3 c =
     let s = c .before in
     c .four3 .ensures .0
-    ∙ rw (s .quarter9 .ensures, s .before .quarter8 .ensures, s .before .before .quarter7 .ensures, s .before .before .before .if3 .taken)
+    ∙ rw (
+      s .quarter9 .ensures,
+      s .before .quarter8 .ensures,
+      s .before .before .quarter7 .ensures,
+      s .before .before .before .if3 .taken,
+    )
 
 quarter-requires-10 : tie.Need-quarter-requires-10
 quarter-requires-10 c κs = search needs

@@ -15,7 +15,9 @@ below-requires-2 : tie.Need-below-requires-2
 below-requires-2 c κs = search needs
 
 returns : tie.Need-returns
-returns c = rw (c .below2 .ensures, c .before .below .ensures) (between-is 64 (c .before .before .args .start) (c .before .before .args .end))
+returns c =
+    let a = c .before .before .args in
+    rw (c .below2 .ensures, c .before .below .ensures) (between-is 64 (a .start) (a .end))
 
 pub between-spec : {M : Type 1} → statement M
 between-spec = tie.close (tie.spec below-requires below-requires-2 returns)
