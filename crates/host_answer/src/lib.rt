@@ -5,6 +5,7 @@ use host::Answer;
 use seq::FrameNo;
 ghost use mathlib.Core.Path.{_≡_};
 ghost use mathlib.Core.List.{[], _∷_};
+ghost use lib.ListN.{getD};
 ghost use Rattle.host.specs.Host.{answerWords, acknowledgementOf};
 ghost use Rattle.host_words.specs.Words.{pairOf};
 
@@ -85,6 +86,18 @@ pub fn put_answer(out: &mut [u64; 7], answer: Answer)
                 place: r.place as u64,
             },
         ),
+    }
+}
+
+// The first of the answer's words, its kind.
+pub fn kind_of(answer: Answer) -> u32
+    ensures { λ r. ⌜ r ≡ getD (answerWords answer) 0 0 ⌝ }
+{
+    match answer {
+        Answer::Accepted(_, _) => 1,
+        Answer::Again(_) => 2,
+        Answer::NoMessages => 3,
+        Answer::Refused(_) => 4,
     }
 }
 

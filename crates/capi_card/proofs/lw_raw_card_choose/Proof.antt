@@ -1,0 +1,35 @@
+-- `capi_card::lw_raw_card_choose`: the choice and its refusal.
+-- Assumes nothing.
+use mathlib.Core.Path.{_≡_, ap}
+use Rattle.capi_card.specs.Numbers.{choiceNumbers}
+use borrow.Author.Needs.{needs}
+use Rattle.capi_card.proofs.lw_raw_card_choose.Statement.{statement}
+use Rattle.capi_card.proofs.lw_raw_card_choose.Tie as tie
+use Rattle.capi_card.proofs.lw_raw_card_choose.Reads as reads
+use Rattle.capi_card.proofs.lw_raw_card_choose.Lts as lts
+use Rattle.capi_card.proofs.one_if.Reads as one-if-reads
+use Rattle.logwhisker.proofs.choose_part.Reads as choose-part-reads
+use Rattle.logwhisker.proofs.choose_refusal.Reads as choose-refusal-reads
+
+choose-part-requires : tie.Need-choose-part-requires
+choose-part-requires c κs = search needs
+
+one-if-requires : tie.Need-one-if-requires
+one-if-requires c κs = search needs
+
+choose-refusal-requires : tie.Need-choose-refusal-requires
+choose-refusal-requires c κs = search needs
+
+cast-result : tie.Need-cast-result
+cast-result c = search needs
+
+returns : tie.Need-returns
+returns c = (
+  c .choose-refusal .ensures,
+  rw (c .before .before .one-if .ensures) (ap choiceNumbers (c .before .before .before .before .choose-part .ensures)),
+)
+
+pub lw-raw-card-choose-spec : {M : Type 1} → statement M
+lw-raw-card-choose-spec =
+    tie.close
+    (tie.spec choose-part-requires one-if-requires choose-refusal-requires cast-result returns)

@@ -1,0 +1,75 @@
+// The charging host for C, behind the functions of include/logwhisker.h: numbers, slices and references to arrays only. Assumes of a
+// caller that pointers and lengths are right. It promises what the library's face does, with answers as words (specs/Words.antt).
+use logwhisker::Answer;
+use logwhisker::FrameNo;
+ghost use mathlib.Core.Path.{_≡_};
+ghost use lib.ListN.{getD};
+ghost use Rattle.host.specs.Host.{answerWords};
+ghost use Rattle.host_words.specs.Words.{pairOf};
+ghost use Rattle.logwhisker.specs.Face.{hostOpened, received, acknowledged};
+ghost use Rattle.capi_host.specs.Words.{calledFor, dueNumber, writtenWhereDue};
+
+// Opens a host: 0, or 13 where an ID is 0.
+#[no_mangle]
+pub extern "C" fn lw_raw_host_open(words: &mut [u64; 67], own: u16, peer: u16) -> u32
+    ensures { λ r. ⌜ r ≡ hostOpened own peer .refusal .number ⌝ }
+    ensures { λ _. ⌜ pairOf (now (words .exit)) ≡ hostOpened own peer .pair ⌝ }
+{
+    logwhisker::open_host(words, own, peer) as u32
+}
+
+// Receives a frame, and answers the kind of the answer, whose words are written.
+#[no_mangle]
+pub extern "C" fn lw_raw_host_receive(
+    words: &mut [u64; 67],
+    frame: &[u8],
+    memory: &mut [u8],
+    answer: &mut [u64; 7],
+) -> u32
+    ensures { λ r. ⌜ r ≡ getD (answerWords (received (now (words .entry)) (now (frame .entry)) (now (memory .entry)) .answer)) 0 0 ⌝ }
+    ensures { λ _. ⌜ pairOf (now (words .exit)) ≡ received (now (words .entry)) (now (frame .entry)) (now (memory .entry)) .pair ⌝ }
+    ensures { λ _. ⌜ now (memory .exit) ≡ received (now (words .entry)) (now (frame .entry)) (now (memory .entry)) .memory ⌝ }
+    ensures { λ _. ⌜ now (answer .exit)
+        ≡ answerWords (received (now (words .entry)) (now (frame .entry)) (now (memory .entry)) .answer) ⌝ }
+{
+    let a = logwhisker::receive(words, frame, memory);
+    logwhisker::put_answer(answer, a);
+    logwhisker::kind_of(a)
+}
+
+// What the words of an answer call for.
+fn called_for(answer: &[u64; 7]) -> Answer
+    ensures { λ r. ⌜ r ≡ calledFor (now (answer .entry)) ⌝ }
+{
+    let kind = answer[0];
+    let number = FrameNo((answer[1] % 65536) as u16);
+    if kind == 1 {
+        return Answer::Again(number);
+    }
+    if kind == 2 {
+        return Answer::Again(number);
+    }
+    Answer::NoMessages
+}
+
+// Writes the acknowledgement that an answer calls for and answers 1; where it calls for none nothing is written and the answer is 0.
+#[no_mangle]
+pub extern "C" fn lw_raw_host_acknowledge(
+    words: &[u64; 67],
+    answer: &[u64; 7],
+    number: u16,
+    frame: &mut [u8; 10],
+) -> u32
+    ensures { λ r. ⌜ r ≡ dueNumber (acknowledged (now (words .entry)) (calledFor (now (answer .entry))) number) ⌝ }
+    ensures { λ _. ⌜ now (frame .exit)
+        ≡ writtenWhereDue (acknowledged (now (words .entry)) (calledFor (now (answer .entry))) number) (now (frame .entry)) ⌝ }
+{
+    let a = called_for(answer);
+    let ack = logwhisker::acknowledge(words, a, FrameNo(number));
+    if ack.due {
+        let bytes = ack.frame;
+        *frame = bytes;
+        return 1;
+    }
+    0
+}
