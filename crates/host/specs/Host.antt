@@ -1,5 +1,5 @@
 -- The charging host: opening a pair, receiving a frame, and the acknowledgement that an answer calls for.
-use Prim.Native.Nat.{ℕ, zero, suc, _+_}
+use Prim.Native.Nat.{ℕ, zero, suc, _+_, _%_}
 use mathlib.Core.Bool.{Bool, true, false, cond, _||_}
 use mathlib.Core.List.{List, [], _∷_}
 use lib.Dec.{eqb, leb, ltb}
@@ -179,3 +179,8 @@ answerWords (Accepted n sums) = 1 ∷ n .0 ∷ sums .messages ∷ sums .bytes �
 answerWords (Again n) = 2 ∷ n .0 ∷ 0 ∷ 0 ∷ 0 ∷ 0 ∷ 0 ∷ []
 answerWords NoMessages = 3 ∷ 0 ∷ 0 ∷ 0 ∷ 0 ∷ 0 ∷ 0 ∷ []
 answerWords (Refused r) = 4 ∷ 0 ∷ 0 ∷ 0 ∷ 0 ∷ r .number ∷ r .place ∷ []
+
+-- What is left of an answer in its kind and number, as far as it calls for an acknowledgement: accepted and again call for one of the
+-- number, modulo 65,536, and no other kind does.
+abbrev pub answerOf : ℕ → ℕ → Answer
+answerOf kind num = cond (eqb kind 1 || eqb kind 2) (Again (record { 0 = num % frameSpace })) NoMessages

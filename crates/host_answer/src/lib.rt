@@ -5,8 +5,12 @@ use host::Answer;
 use seq::FrameNo;
 ghost use mathlib.Core.Path.{_≡_};
 ghost use mathlib.Core.List.{[], _∷_};
+<<<<<<< HEAD
 ghost use lib.ListN.{getD};
 ghost use Rattle.host.specs.Host.{answerWords, acknowledgementOf};
+=======
+ghost use Rattle.host.specs.Host.{answerWords, answerOf, acknowledgementOf};
+>>>>>>> 6d02f24 (Try wrong answers of every promise of the host's engine)
 ghost use Rattle.host_words.specs.Words.{pairOf};
 
 // An answer's seven words.
@@ -111,4 +115,29 @@ pub fn acknowledge_in_place(words: &[u64], answer: Answer, number: FrameNo) -> A
         answer,
         number,
     )
+}
+
+// What an answer's kind and number call for an acknowledgement by.
+fn answer_of(kind: u64, answered: u64) -> Answer
+    ensures { λ r. ⌜ r ≡ answerOf kind answered ⌝ }
+{
+    if kind == 1 {
+        return Answer::Again(FrameNo((answered % 65536) as u16));
+    }
+    if kind == 2 {
+        return Answer::Again(FrameNo((answered % 65536) as u16));
+    }
+    Answer::NoMessages
+}
+
+// The same by the kind and the number of an answer's words, which may be any.
+pub fn acknowledge_words(
+    words: &[u64],
+    kind: u64,
+    answered: u64,
+    number: FrameNo,
+) -> Acknowledgement
+    ensures { λ r. ⌜ r ≡ acknowledgementOf (pairOf (now (words .entry))) (answerOf kind answered) (number .0) ⌝ }
+{
+    acknowledge_in_place(words, answer_of(kind, answered), number)
 }
