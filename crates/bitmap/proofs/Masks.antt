@@ -23,6 +23,12 @@ use Rattle.bitmap.proofs.Marks.{
   mark-ext,
 }
 
+-- The definitions at work, by computation: 7 is 111 in binary, and 28 is 11100.
+pub edges : (marksBelow 8 3 ≡ 7) × (marksBelow 8 0 ≡ 0) × (marksBelow 8 9 ≡ 255) × (marksBetween 8 2 5 ≡ 28)
+    × (marksBetween 8 5 2 ≡ 0) × (marksBetween 8 6 9 ≡ 192)
+unfolding marksBelow marksBetween marksOf
+edges = (refl, refl, refl, refl, refl, refl)
+
 -- ---- and, or, not
 
 -- by the four cases of two bits
