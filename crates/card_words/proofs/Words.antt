@@ -3,8 +3,8 @@
 use mathlib.Core.Path.{_≡_, refl, _∙_, ap}
 use mathlib.Core.Logic.{_≢_}
 use mathlib.Core.List.{List, [], _∷_}
-use Prim.Native.Nat.{ℕ, zero, suc, _+_, _*_, _/_, _%_, _≤_, _<_}
-use native.Mathlib.Nat.{not-suc-le-zero, add-zero, div-eq-of-lt}
+use Prim.Native.Nat.{ℕ, zero, suc, _+_, _-_, _*_, _/_, _%_, _^_, _≤_, _<_}
+use native.Mathlib.Nat.{not-suc-le-zero, add-zero, div-eq-of-lt, mod-eq-of-lt, div-div-eq-div-mul}
 use native.Mathlib.Decide.{decLt, ℕ-discrete}
 use native.Mathlib.Omega.{arith}
 use borrow.Author.Tests.{eq-eqb, ne-eqb}
@@ -128,6 +128,57 @@ with-quarter x (suc (suc zero)) v i f h l =
 with-quarter x (suc (suc (suc zero))) v i f h l =
     four-at (quarter x 0) (quarter x 1) (quarter x 2) v (quarter-lt x 0) (quarter-lt x 1) (quarter-lt x 2) f i l
 with-quarter x (suc (suc (suc (suc j)))) v i f h l = absurd (omega arith)
+
+-- a word is its four numbers
+whole : (x : ℕ) → x < 18446744073709551616 → x ≡ four (quarter x 0) (quarter x 1) (quarter x 2) (quarter x 3)
+whole x f =
+    let one : x / 1 ≡ x = omega arith in
+    let b : x / 65536 / 65536 ≡ x / 4294967296 = div-div-eq-div-mul x 65536 65536 in
+    let d : x / 4294967296 / 65536 ≡ x / 281474976710656 = div-div-eq-div-mul x 4294967296 65536 in
+    let low : x ≡ x % 65536 + x / 65536 * 65536 = omega arith in
+    let next : x / 65536 ≡ x / 65536 % 65536 + x / 65536 / 65536 * 65536 = omega arith in
+    let high : x / 4294967296 ≡ x / 4294967296 % 65536 + x / 4294967296 / 65536 * 65536 = omega arith in
+    let top : x / 281474976710656 < 65536 = omega arith in
+    let last : x / 281474976710656 % 65536 ≡ x / 281474976710656 = omega (arith, top) in
+    rw one (omega (arith, low, next, high, b, d, last))
+
+-- one number taken out of a word, and another put in
+swap : (x q p v rest : ℕ) → x ≡ rest + q * p → q * p < 18446744073709551616 → v * p < 18446744073709551616
+    → rest + v * p < 18446744073709551616
+    → (q * p % 18446744073709551616 ≤ x) × (x - q * p % 18446744073709551616 + v * p % 18446744073709551616 < 18446744073709551616)
+    × (x - q * p % 18446744073709551616 + v * p % 18446744073709551616 ≡ rest + v * p)
+swap x q p v rest is a b c =
+    let o : q * p % 18446744073709551616 ≡ q * p = mod-eq-of-lt a in
+    let i : v * p % 18446744073709551616 ≡ v * p = mod-eq-of-lt b in
+    rw (o, i) (omega (arith, is), omega (arith, is), omega (arith, is))
+
+pub record Replaced (x j v : ℕ) : Type 0 where
+  pub out-fits : quarter x j * 2 ^ (16 * j) % 18446744073709551616 ≤ x
+  pub sum-fits : x - quarter x j * 2 ^ (16 * j) % 18446744073709551616 + v * 2 ^ (16 * j) % 18446744073709551616 < 18446744073709551616
+  pub is : x - quarter x j * 2 ^ (16 * j) % 18446744073709551616 + v * 2 ^ (16 * j) % 18446744073709551616 ≡ withQuarter x j v
+
+pub replaced : (x j v : ℕ) → x < 18446744073709551616 → j < 4 → v < 65536 → Replaced x j v
+replaced x zero v f h l =
+    let w = whole x f in
+    let k = swap x (quarter x 0) 1 v (quarter x 1 * 65536 + quarter x 2 * 4294967296 + quarter x 3 * 281474976710656)
+    (omega (arith, w)) (omega arith) (omega arith) (omega (arith, w)) in
+    record { out-fits = k .0; sum-fits = k .1; is = k .2 ∙ omega arith }
+replaced x (suc zero) v f h l =
+    let w = whole x f in
+    let k = swap x (quarter x 1) 65536 v (quarter x 0 + quarter x 2 * 4294967296 + quarter x 3 * 281474976710656)
+    (omega (arith, w)) (omega arith) (omega arith) (omega (arith, w)) in
+    record { out-fits = k .0; sum-fits = k .1; is = k .2 ∙ omega arith }
+replaced x (suc (suc zero)) v f h l =
+    let w = whole x f in
+    let k = swap x (quarter x 2) 4294967296 v (quarter x 0 + quarter x 1 * 65536 + quarter x 3 * 281474976710656)
+    (omega (arith, w)) (omega arith) (omega arith) (omega (arith, w)) in
+    record { out-fits = k .0; sum-fits = k .1; is = k .2 ∙ omega arith }
+replaced x (suc (suc (suc zero))) v f h l =
+    let w = whole x f in
+    let k = swap x (quarter x 3) 281474976710656 v (quarter x 0 + quarter x 1 * 65536 + quarter x 2 * 4294967296)
+    (omega (arith, w)) (omega arith) (omega arith) (omega (arith, w)) in
+    record { out-fits = k .0; sum-fits = k .1; is = k .2 ∙ omega arith }
+replaced x (suc (suc (suc (suc j)))) v f h l = absurd (omega arith)
 
 quarter-same : (x j v : ℕ) → v < 65536 → j < 4 → quarter (withQuarter x j v) j ≡ v
 quarter-same x j v f h = with-quarter x j v j f h h ∙ getD-set-same (quarters x) j v 0 h

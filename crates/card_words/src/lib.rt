@@ -93,20 +93,14 @@ fn quarter(x: u64, j: u32) -> u16
     ((x >> (16 * j)) % 65536) as u16
 }
 
+// The word with another number in place of that one.
 fn with_quarter(x: u64, j: u32, v: u16) -> u64
     requires { ⌜ j < 4 ⌝ }
     ensures { λ r. ⌜ r ≡ withQuarter x j v ⌝ }
 {
-    if j == 0 {
-        return four(v, quarter(x, 1), quarter(x, 2), quarter(x, 3));
-    }
-    if j == 1 {
-        return four(quarter(x, 0), v, quarter(x, 2), quarter(x, 3));
-    }
-    if j == 2 {
-        return four(quarter(x, 0), quarter(x, 1), v, quarter(x, 3));
-    }
-    four(quarter(x, 0), quarter(x, 1), quarter(x, 2), v)
+    let shift = 16 * j;
+    let old = quarter(x, j) as u64;
+    x - (old << shift) + ((v as u64) << shift)
 }
 
 // ---- the head
