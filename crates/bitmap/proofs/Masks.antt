@@ -11,10 +11,12 @@ use borrow.Author.Tests.{lt-ltb, le-ltb, le-leb, lt-leb}
 use lib.Dec.{eqb, leb, ltb}
 use lib.Bits.{bitAnd, bitOr, and-shr, and-mod, and-lt, or-shr, or-mod}
 use lib.Pow.{pow-pos, pow-mono, pow-lt}
-use Rattle.bitmap.specs.Marks.{mark, marksOf}
+use Rattle.bitmap.specs.Marks.{mark, trailingOnes, marksOf}
 use Rattle.bitmap.specs.Masks.{marksBelow, marksBetween}
 use Rattle.bitmap.proofs.Marks.{
+  leading-is,
   bit-two,
+  mark-of-zero,
   mark-zero,
   mark-suc,
   mark-marksOf,
@@ -90,6 +92,11 @@ marks-cut width n p h none =
     go : (i : ℕ) → Dec (i < n) → mark (marksOf n p) i ≡ p i
     go i (yes k) = mark-marksOf n p i k
     go i (no k) = mark-marksOf-beyond n p i (omega arith) ∙ sym (none i (omega arith))
+
+-- a word of no marks has no run
+pub zero-run : (width : ℕ) → trailingOnes width 0 ≡ 0
+unfolding trailingOnes
+zero-run width = leading-is (mark 0) width 0 (omega arith) (λ i h. absurd (omega arith)) (λ h. mark-of-zero 0)
 
 module _ (width : ℕ) where
   pub mark-below : (end i : ℕ) → i < width → mark (marksBelow width end) i ≡ ltb i end

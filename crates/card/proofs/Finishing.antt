@@ -2,7 +2,7 @@
 -- say of each count whether that transaction is finished.
 -- Assumes nothing.
 use Prim.Native.Nat.{ℕ, _+_, _-_, _%_, _≤_, _<_}
-use native.Mathlib.Nat.{mod-add-mod}
+use native.Mathlib.Nat.{mod-add-mod, add-zero, mod-eq-of-lt}
 use native.Mathlib.Decide.{decLt}
 use native.Mathlib.Omega.{arith}
 use mathlib.Core.Path.{_≡_, refl, sym, ap, _∙_}
@@ -14,6 +14,7 @@ use Rattle.seq.specs.Ring.{frameSpace, transSpace, distance, advance, inRange}
 use Rattle.seq.proofs.Ring.{distance-ahead, distance-behind, advance-distance}
 use Rattle.bitmap.specs.Marks.{mark, leading, trailingOnes, marksOf}
 use Rattle.bitmap.proofs.Marks.{mark-marksOf, mark-marksOf-beyond, window-moves, window-marks}
+use Rattle.bitmap.proofs.Masks.{marks-cut, zero-run}
 use Rattle.wire.specs.Format.{needed}
 use Rattle.card.specs.declared.Sending.{Sending}
 use Rattle.card.specs.declared.Sendings.{Sendings}
@@ -131,3 +132,17 @@ module _ (s : Sendings) (low total : ℕ) (within : low ≤ total) (few : total 
     pub finished-after : (i : ℕ) → mark (finishing s base next .finished) i ≡ q (leading q total + i)
     unfolding finishing passing
     finished-after = window-marks q total low 32 marked within few below marked-is unopened
+
+-- Where nothing is opened nothing finishes, whatever the marks are: no mark is left, and the window stays.
+module _ (s : Sendings) (base next : ℕ) (none : opened s ≡ 0) where
+  no-marks : marksOf 32 (finishedBy s base next) ≡ 0
+  unfolding finishedBy marksOf
+  no-marks = sym (marks-cut 32 0 (finishedBy s base next) (omega arith) (λ i h. rw (le-ltb i (opened s) (omega arith))))
+
+  pub nothing-finished : finishing s base next .finished ≡ 0
+  unfolding finishing passing
+  nothing-finished = rw (no-marks, zero-run 32)
+
+  pub nothing-passed : s .lowest .0 < transSpace → finishing s base next .lowest .0 ≡ s .lowest .0
+  unfolding finishing passing advance
+  nothing-passed h = rw (no-marks, zero-run 32, add-zero (s .lowest .0)) (mod-eq-of-lt h)

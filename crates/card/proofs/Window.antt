@@ -19,6 +19,7 @@ use Rattle.bitmap.proofs.Marks.{
   window-moves,
   window-marks,
 }
+use Rattle.bitmap.proofs.Masks.{marks-cut, zero-run}
 use Rattle.card.specs.declared.SendWindow.{SendWindow}
 use Rattle.card.specs.Window.{
   unreleased,
@@ -176,3 +177,18 @@ module _ (w : SendWindow) (released sealed : ℕ) (within : released ≤ sealed)
 pub next-after : (w : SendWindow) (start count : ℕ) → acknowledging w start count .next ≡ w .next
 unfolding acknowledging releasing
 next-after w start count = refl
+
+-- Where nothing is sealed nothing is released, whatever the marks are: no mark is left, and the window stays.
+module _ (w : SendWindow) (start count : ℕ) (none : unreleased w ≡ 0) where
+  no-marks : marksOf 64 (acknowledgedBy w start count) ≡ 0
+  unfolding acknowledgedBy marksOf
+  no-marks =
+      sym (marks-cut 64 0 (acknowledgedBy w start count) (omega arith) (λ i h. rw (le-ltb i (unreleased w) (omega arith))))
+
+  pub nothing-acknowledged : acknowledging w start count .acked ≡ 0
+  unfolding acknowledging releasing
+  nothing-acknowledged = rw (no-marks, zero-run 64)
+
+  pub nothing-released : w .base .0 < frameSpace → acknowledging w start count .base .0 ≡ w .base .0
+  unfolding acknowledging releasing advance
+  nothing-released h = rw (no-marks, zero-run 64, add-zero (w .base .0)) (mod-eq-of-lt h)
