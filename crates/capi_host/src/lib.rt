@@ -1,13 +1,13 @@
 // The charging host for C, behind the functions of include/logwhisker.h: numbers, slices and references to arrays only. Assumes of a
 // caller that pointers and lengths are right. It promises what the library's face does, with answers as words (specs/Words.antt).
-use logwhisker::Answer;
 use logwhisker::FrameNo;
 ghost use mathlib.Core.Path.{_≡_};
 ghost use lib.ListN.{getD};
-ghost use Rattle.host.specs.Host.{answerWords};
+ghost use Rattle.host.specs.Host.{answerWords, answerOf};
+ghost use Rattle.host_describe.specs.Describing.{description as descriptionOf};
 ghost use Rattle.host_words.specs.Words.{pairOf};
 ghost use Rattle.logwhisker.specs.Face.{hostOpened, received, acknowledged};
-ghost use Rattle.capi_host.specs.Words.{calledFor, dueNumber, writtenWhereDue};
+ghost use Rattle.capi_host.specs.Words.{dueNumber, writtenWhereDue};
 
 // Opens a host: 0, or 13 where an ID is 0.
 #[no_mangle]
@@ -37,21 +37,6 @@ pub extern "C" fn lw_raw_host_receive(
     logwhisker::kind_of(a)
 }
 
-// What the words of an answer call for.
-fn called_for(answer: &[u64; 7]) -> Answer
-    ensures { λ r. ⌜ r ≡ calledFor (now (answer .entry)) ⌝ }
-{
-    let kind = answer[0];
-    let number = FrameNo((answer[1] % 65536) as u16);
-    if kind == 1 {
-        return Answer::Again(number);
-    }
-    if kind == 2 {
-        return Answer::Again(number);
-    }
-    Answer::NoMessages
-}
-
 // Writes the acknowledgement that an answer calls for and answers 1; where it calls for none nothing is written and the answer is 0.
 #[no_mangle]
 pub extern "C" fn lw_raw_host_acknowledge(
@@ -60,16 +45,25 @@ pub extern "C" fn lw_raw_host_acknowledge(
     number: u16,
     frame: &mut [u8; 10],
 ) -> u32
-    ensures { λ r. ⌜ r ≡ dueNumber (acknowledged (now (words .entry)) (calledFor (now (answer .entry))) number) ⌝ }
+    ensures { λ r. ⌜ r ≡ dueNumber (acknowledged (now (words .entry)) (answerOf (getD (now (answer .entry)) 0 0) (getD (now (answer .entry)) 1 0)) number) ⌝ }
     ensures { λ _. ⌜ now (frame .exit)
-        ≡ writtenWhereDue (acknowledged (now (words .entry)) (calledFor (now (answer .entry))) number) (now (frame .entry)) ⌝ }
+        ≡ writtenWhereDue (acknowledged (now (words .entry)) (answerOf (getD (now (answer .entry)) 0 0) (getD (now (answer .entry)) 1 0)) number) (now (frame .entry)) ⌝ }
 {
-    let a = called_for(answer);
-    let ack = logwhisker::acknowledge(words, a, FrameNo(number));
+    let kind = answer[0];
+    let answered = answer[1];
+    let ack = logwhisker::acknowledge_words(words, kind, answered, FrameNo(number));
     if ack.due {
         let bytes = ack.frame;
         *frame = bytes;
         return 1;
     }
     0
+}
+
+// Describes a host: IDs, windows, and the open transactions, nearest the lowest first.
+#[no_mangle]
+pub extern "C" fn lw_raw_host_describe(words: &[u64; 67], description: &mut [u64; 167])
+    ensures { λ _. ⌜ now (description .exit) ≡ descriptionOf (pairOf (now (words .entry))) ⌝ }
+{
+    *description = logwhisker::describe_host(words);
 }

@@ -5,12 +5,8 @@ use host::Answer;
 use seq::FrameNo;
 ghost use mathlib.Core.Path.{_≡_};
 ghost use mathlib.Core.List.{[], _∷_};
-<<<<<<< HEAD
 ghost use lib.ListN.{getD};
-ghost use Rattle.host.specs.Host.{answerWords, acknowledgementOf};
-=======
 ghost use Rattle.host.specs.Host.{answerWords, answerOf, acknowledgementOf};
->>>>>>> 6d02f24 (Try wrong answers of every promise of the host's engine)
 ghost use Rattle.host_words.specs.Words.{pairOf};
 
 // An answer's seven words.

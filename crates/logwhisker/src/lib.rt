@@ -21,7 +21,8 @@ ghost use mathlib.Core.Path.{_≡_};
 ghost use Rattle.host_words.specs.Words.{pairOf};
 ghost use Rattle.card_words.specs.Words.{cardOf};
 ghost use Rattle.card.specs.Card.{openTransaction, sealFrame};
-ghost use Rattle.host.specs.Host.{steppedOf};
+ghost use Rattle.host.specs.Host.{steppedOf, answerOf};
+ghost use Rattle.host_describe.specs.Describing.{description};
 ghost use Rattle.delivery.specs.System.{specifiedHost};
 ghost use Rattle.card_send.specs.Parts.{shownPart, chosenPart};
 ghost use Rattle.logwhisker.specs.Face.{
@@ -61,6 +62,25 @@ pub fn acknowledge(words: &[u64; 67], answer: Answer, number: FrameNo) -> Acknow
     ensures { λ r. ⌜ r ≡ acknowledged (now (words .entry)) answer (number .0) ⌝ }
 {
     host_answer::acknowledge_in_place(words, answer, number)
+}
+
+// The same where of the answer only its kind and number are at hand, as words.
+pub fn acknowledge_words(
+    words: &[u64; 67],
+    kind: u64,
+    answered: u64,
+    number: FrameNo,
+) -> Acknowledgement
+    ensures { λ r. ⌜ r ≡ acknowledged (now (words .entry)) (answerOf kind answered) (number .0) ⌝ }
+{
+    host_answer::acknowledge_words(words, kind, answered, number)
+}
+
+// Describes a host: IDs, windows, and the open transactions, nearest the lowest first.
+pub fn describe_host(words: &[u64; 67]) -> [u64; 167]
+    ensures { λ r. ⌜ r ≡ description (pairOf (now (words .entry))) ⌝ }
+{
+    host_describe::describe(words)
 }
 
 // ---- the host by value
