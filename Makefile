@@ -6,12 +6,13 @@ SEED ?= 2
 # The header says which version this is.
 VERSION := $(shell sed -n 's/^.define LW_VERSION "\(.*\)"/\1/p' include/logwhisker.h)
 
-# What the library for C is made from: its crate, those that crates.txt lists behind it, and octets, which these name.
-CAPI := target/staticlib/libcapi.a
-CAPI_CRATES := capi octets $(shell sed -n 's/^capi://p' crates.txt)
-CAPI_SOURCES := $(wildcard $(foreach crate,$(CAPI_CRATES),crates/$(crate)/src/*.rt crates/$(crate)/specs/*.antt))
+# What the library for C is made from: three crates of exported functions, and all that crates.txt lists behind them.
+EXPORTS := capi_frame capi_host capi_card
+LIBRARY := target/staticlib/liblogwhisker.a
+LIBRARY_CRATES := $(sort $(EXPORTS) $(shell sed -n 's/^capi_[a-z]*://p' crates.txt))
+LIBRARY_SOURCES := $(wildcard $(foreach crate,$(LIBRARY_CRATES),crates/$(crate)/src/*.rt crates/$(crate)/specs/*.antt))
 
-.PHONY: test check replay calls demo bench soak install pictures clean
+.PHONY: test check library replay calls demo bench soak install pictures clean
 
 # The C programs are built as users build theirs: against an installed copy, here one below target/.
 INSTALLED := target/installed
@@ -37,6 +38,9 @@ replay:
 	@rt check replay > target/replay.log 2>&1 || { cat target/replay.log; exit 1; }
 	@target/bin/replay < $(FRAMES)
 
+# Proves and builds the library for C: target/staticlib/liblogwhisker.a.
+library: $(LIBRARY)
+
 # Builds target/bin/calls, which drives both ends by a script of calls, one a line.
 calls: target/bin/calls
 
@@ -55,7 +59,7 @@ $(DEMO_PROGRAMS): target/demo/%: c/demo/%.c c/demo/common.c c/demo/common.h $(IN
 # Times the proved host and replay against plain Rust ones on this machine: docs/PERFORMANCE.md.
 bench:
 	rt check replay
-	rt staticlib capi
+	$(MAKE) library
 	cd rust && cargo build --offline --profile bench-release -p bench --features proved
 	target/rust/bench-release/bench-ends
 	target/rust/bench-release/bench-replay target/bin/replay
@@ -64,30 +68,31 @@ bench:
 # times as long, from SEED=number on. It needs 1 GB of disk below target/.
 soak:
 	rt check replay
-	rt staticlib capi
-	rt staticlib host_run
-	$(MAKE) calls
+	$(MAKE) library calls
 	cd rust && cargo test --offline --release -p logwhisker --test streams -- --include-ignored --nocapture
-	cd rust && LW_SEED=$(SEED) LW_INPUTS=12000000 LW_FRAMES=4000000 LW_LINES=20000000 LW_SCRIPTS=240 LW_LISTS=4000 LW_LONG_LISTS=10 \
+	cd rust && LW_SEED=$(SEED) LW_INPUTS=12000000 LW_FRAMES=4000000 LW_LINES=20000000 LW_SCRIPTS=240 LW_LISTS=4000 LW_LONG_LISTS=10 LW_CALLS_OF_CARD=6000000 \
 		cargo test --offline --release -p logwhisker -p reference --tests
 	@echo 'soak: all the same from seed $(SEED) on'
 
 # Puts header, static library and pkg-config file below PREFIX, with DESTDIR in front while copying: docs/C-API.md.
-install: $(CAPI)
+install: $(LIBRARY)
 	install -d '$(DESTDIR)$(PREFIX)/include' '$(DESTDIR)$(PREFIX)/lib/pkgconfig'
 	install -m 644 include/logwhisker.h '$(DESTDIR)$(PREFIX)/include/logwhisker.h'
-	install -m 644 $(CAPI) '$(DESTDIR)$(PREFIX)/lib/liblogwhisker.a'
+	install -m 644 $(LIBRARY) '$(DESTDIR)$(PREFIX)/lib/liblogwhisker.a'
 	{ echo 'prefix=$(PREFIX)'; sed 's/@VERSION@/$(VERSION)/' include/logwhisker.pc.in; } > '$(DESTDIR)$(PREFIX)/lib/pkgconfig/logwhisker.pc'
 	chmod 644 '$(DESTDIR)$(PREFIX)/lib/pkgconfig/logwhisker.pc'
 
-$(INSTALLED_LIB): $(CAPI) include/logwhisker.h include/logwhisker.pc.in
+$(INSTALLED_LIB): $(LIBRARY) include/logwhisker.h include/logwhisker.pc.in
 	@$(MAKE) --no-print-directory install PREFIX='$(CURDIR)/$(INSTALLED)' DESTDIR=
 	@touch $@
 
-# An archive that comes out the same may keep its date, and would be asked for again at every install.
-$(CAPI): $(CAPI_SOURCES)
-	rt staticlib capi
-	touch $@
+# One archive of the three that the exports give.
+$(LIBRARY): $(LIBRARY_SOURCES)
+	for crate in $(EXPORTS); do rt staticlib $$crate || exit 1; done
+	rm -rf target/objects $@
+	mkdir -p target/objects
+	cd target/objects && for crate in $(EXPORTS); do ar x ../staticlib/lib$$crate.a || exit 1; done
+	ar rcs $@ target/objects/*.o
 
 # Makes the pictures anew; the gate asks for it after a change of crates.txt.
 pictures:

@@ -7,15 +7,15 @@ use std::path::Path;
 fn main() {
     let root = env::var("CARGO_MANIFEST_DIR").expect("cargo sets CARGO_MANIFEST_DIR");
     let folder = Path::new(&root).join("../../target/staticlib");
-    let archive = folder.join("libcapi.a");
+    let archive = folder.join("liblogwhisker.a");
 
     println!("cargo:rerun-if-changed=build.rs");
     println!("cargo:rerun-if-changed={}", archive.display());
     assert!(
         archive.is_file(),
-        "\n\n{} is absent.\nMake it with `rt staticlib capi` in the root of the repository, then run this again.\n",
+        "\n\n{} is absent.\nMake it with `make library` in the root of the repository, then run this again.\n",
         archive.display()
     );
     println!("cargo:rustc-link-search=native={}", folder.display());
-    println!("cargo:rustc-link-lib=static=capi");
+    println!("cargo:rustc-link-lib=static=logwhisker");
 }
