@@ -38,7 +38,7 @@ not-delivered e base next h = rw (ne-eqb (e .added) (needed (e .count)) (omega a
 -- With all messages added, exactly when the frame of the latest is released. Before the step `was` frames were released, and not
 -- that one; after it `released` are, and the frame being built is the one of count `sealed`.
 pub delivered-is : (e : Sending) (base next was released sealed frame : ℕ) → e .added ≡ needed (e .count)
-    → e .latest .0 ≡ frame % frameSpace → base ≡ released % frameSpace → next ≡ sealed % frameSpace
+    → e .frame .0 ≡ frame % frameSpace → base ≡ released % frameSpace → next ≡ sealed % frameSpace
     → was ≤ frame → frame ≤ sealed → was ≤ released → released ≤ sealed → sealed ≤ was + 64
     → delivered e base next ≡ ltb frame released
 unfolding delivered

@@ -253,7 +253,7 @@ opening-keeps s count address value o room c t v =
       lowest-clear = o .lowest-clear;
     }
   where
-    new : Counted (record { address = address; value = value; count = count; added = 0; latest = record { 0 = 0 } })
+    new : Counted (record { address = address; value = value; count = count; added = 0; frame = record { 0 = 0 } })
     new =
         record {
           added-most = omega (arith, needed-pos count);

@@ -37,7 +37,7 @@ pub record Counted (e : Sending) : Type 0 where
   pub count-fits : e .count < 2 ^ 16
   pub address-fits : e .address < 2 ^ 32
   pub value-fits : e .value < 2 ^ 32
-  pub latest-fits : e .latest .0 < frameSpace
+  pub latest-fits : e .frame .0 < frameSpace
 
 -- The transactions.
 pub record Orderly (s : Sendings) : Type 0 where

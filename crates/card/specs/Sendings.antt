@@ -12,7 +12,7 @@ use Rattle.card.specs.declared.Sending.{Sending}
 use Rattle.card.specs.declared.Sendings.{Sendings}
 
 abbrev pub noSending : Sending
-noSending = record { address = 0; value = 0; count = 0; added = 0; latest = record { 0 = 0 } }
+noSending = record { address = 0; value = 0; count = 0; added = 0; frame = record { 0 = 0 } }
 
 -- Transactions start at 0, and none is opened.
 unfoldable pub noSendings : Sendings
@@ -39,7 +39,7 @@ opening s count address value = record {
   lowest = s .lowest;
   finished = s .finished;
   table = set (s .table) (s .next .0 % 32)
-      (record { address = address; value = value; count = count; added = 0; latest = record { 0 = 0 } });
+      (record { address = address; value = value; count = count; added = 0; frame = record { 0 = 0 } });
 }
 
 -- ---- adding
@@ -58,7 +58,7 @@ oneMore e frame = record {
   value = e .value;
   count = e .count;
   added = suc (e .added);
-  latest = record { 0 = frame };
+  frame = record { 0 = frame };
 }
 
 unfoldable pub adding : Sendings → ℕ → ℕ → Sendings
@@ -79,7 +79,7 @@ adding s t frame =
 unfoldable pub delivered : Sending → ℕ → ℕ → Bool
 delivered e base next =
     eqb (e .added) (needed (e .count))
-    && ltb (distance frameSpace base next) (distance frameSpace base (e .latest .0))
+    && ltb (distance frameSpace base next) (distance frameSpace base (e .frame .0))
 
 -- The i-th transaction from the lowest unfinished one on is finished (a term of the rules): it is opened, and it was finished
 -- before or is delivered now. What was finished stays so: a frame number that comes round decides nothing anew, since `delivered`

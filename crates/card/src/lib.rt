@@ -25,7 +25,7 @@ pub struct Sending {
     pub value: u32,
     pub count: u16,
     pub added: u16,
-    pub latest: FrameNo,
+    pub frame: FrameNo,
 }
 
 // The transactions. next is the number that the next opening gives, lowest the lowest unfinished one. Bit i of finished stands for

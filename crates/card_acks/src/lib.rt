@@ -52,7 +52,7 @@ fn is_delivered(e: Sending, base: FrameNo, next: FrameNo) -> bool
     if e.added != card::messages_of(e.count) {
         return false;
     }
-    let latest = e.latest;
+    let latest = e.frame;
     next.distance(base) < latest.distance(base)
 }
 

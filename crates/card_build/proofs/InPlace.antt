@@ -97,7 +97,7 @@ module _ (w : List ℕ) (h : Head) (head-is : h ≡ headOf (cardOf w)) where
 
       pub opened-now : d < 32 → (mid left : List ℕ) (one : TransNo) → one .0 ≡ advance transSpace (h .upcoming .0) 1
           → cardOf mid ≡ withSending (cardOf w) (h .upcoming .0)
-          (record { address = address; value = value; count = count; added = 0; latest = record { 0 = 0 } })
+          (record { address = address; value = value; count = count; added = 0; frame = record { 0 = 0 } })
           → cardOf left ≡ withHead (cardOf mid) (record {
             own = h .own;
             peer = h .peer;
@@ -131,7 +131,7 @@ module _ (w : List ℕ) (h : Head) (head-is : h ≡ headOf (cardOf w)) where
   pub counted : (t : ℕ) (bytes : List ℕ) → takes (cardOf w .sendings) t ≡ true → (mid left : List ℕ) (e : Sending) (start : ℕ)
       → e ≡ sendingAt (cardOf w .sendings) t → start ≡ nextHeader (h .used)
       → cardOf mid ≡ withSending (cardOf w) t
-      (record { address = e .address; value = e .value; count = e .count; added = e .added + 1; latest = h .next })
+      (record { address = e .address; value = e .value; count = e .count; added = e .added + 1; frame = h .next })
       → cardOf left ≡ withHead (cardOf mid) (record {
         own = h .own;
         peer = h .peer;

@@ -78,7 +78,7 @@ pub fn open_transaction(
             value,
             count,
             added: 0,
-            latest: FrameNo(0),
+            frame: FrameNo(0),
         },
     );
     let mut next = h;
@@ -235,7 +235,7 @@ fn count_message(words: &mut [u64], t: TransNo, payload: &[u8])
             value: e.value,
             count: e.count,
             added: e.added + 1,
-            latest: frame,
+            frame,
         },
     );
     let start = header_offset(h.used);

@@ -245,7 +245,7 @@ pub sending-is : (w : List ℕ) (t : ℕ) → sendingAt (cardOf w .sendings) t �
 unfolding cardOf
 sending-is w t = listed-at (sendingIn w) noSending 32 0 (t % 32) (omega arith) ∙ ap (sendingIn w) (omega arith)
 
-pub sending-by : (a b : ℕ) (e : Sending) → Halved a (e .address) (e .value) → Quartered b (e .count) (e .added) (e .latest .0) 0
+pub sending-by : (a b : ℕ) (e : Sending) → Halved a (e .address) (e .value) → Quartered b (e .count) (e .added) (e .frame .0) 0
     → sendingBy a b ≡ e
 sending-by a b e h q = rw (h .low, h .high, q .first, q .second, q .third)
 

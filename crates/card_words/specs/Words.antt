@@ -37,7 +37,7 @@ sendingBy a b = record {
   value = a / 4294967296 % 4294967296;
   count = b % 65536;
   added = b / 65536 % 65536;
-  latest = record { 0 = b / 4294967296 % 65536 };
+  frame = record { 0 = b / 4294967296 % 65536 };
 }
 
 -- Entry k of the table.

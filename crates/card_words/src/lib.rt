@@ -186,7 +186,7 @@ pub fn sending_at(w: &[u64], t: TransNo) -> Sending
         value: (a / 4294967296 % 4294967296) as u32,
         count: (b % 65536) as u16,
         added: (b / 65536 % 65536) as u16,
-        latest: FrameNo((b / 4294967296 % 65536) as u16),
+        frame: FrameNo((b / 4294967296 % 65536) as u16),
     }
 }
 
@@ -198,7 +198,7 @@ pub fn put_sending(w: &mut [u64], t: TransNo, e: Sending)
     }
     let k = (t.0 % 32) as usize;
     let terms = two(e.address, e.value);
-    let counts = four(e.count, e.added, e.latest.0, 0);
+    let counts = four(e.count, e.added, e.frame.0, 0);
     put(w, 21 + 2 * k, terms);
     put(w, 22 + 2 * k, counts);
 }

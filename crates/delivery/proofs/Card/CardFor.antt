@@ -248,7 +248,7 @@ module _ (c : Card) (slots : List ℕ) (b : Book) (r : CardFor c slots b) (s : S
     new = newTransaction b terms address value
 
     abbrev newSending : Sending
-    newSending = record { address = address; value = value; count = terms; added = 0; latest = record { 0 = 0 } }
+    newSending = record { address = address; value = value; count = terms; added = 0; frame = record { 0 = 0 } }
 
     old-transaction : (i : ℕ) → i < total → transactionAt b′ i ≡ transactionAt b i
     unfolding enterOpening
