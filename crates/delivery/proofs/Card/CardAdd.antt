@@ -230,8 +230,8 @@ module _ (c : Card) (slots : List ℕ) (b : Book) (r : CardFor c slots b) (s : S
           (slots-differ (lowUnfinished b) k i l (omega (arith, s .transFit)) (omega arith)
           (omega (arith, s .transFit, i-open)) n)
 
-      last-kept : LastMessageIn (sendingAt (c .sendings) k .latest .0) b k
-          → LastMessageIn (sendingAt (c .sendings) k .latest .0) (withAdded b e) k
+      last-kept : LastMessageIn (sendingAt (c .sendings) k .frame .0) b k
+          → LastMessageIn (sendingAt (c .sendings) k .frame .0) (withAdded b e) k
       last-kept f =
           record {
             frame = f .frame;

@@ -85,7 +85,7 @@ pub record TermsFor (t : Sending) (b : Book) (i : ℕ) : Type 0 where
   pub addressIs : t .address ≡ transactionAt b i .completionAddress
   pub valueIs : t .value ≡ transactionAt b i .completionValue
   pub addedIs : t .added ≡ inAll b i
-  pub lastIs : 0 < inAll b i → LastMessageIn (t .latest .0) b i
+  pub lastIs : 0 < inAll b i → LastMessageIn (t .frame .0) b i
 
 abbrev pub frameBytes : Card → Book → ℕ → List ℕ
 frameBytes c b n = framed (c .own) (c .peer) (b .transactions) n (frameAt b n .messages)
@@ -147,7 +147,7 @@ slot-same c c′ slots b b′ n o p l z q f =
 
 -- a transaction with the same terms and messages
 pub terms-same : (t t′ : Sending) (b b′ : Book) (i : ℕ) → t′ ≡ t → transactionAt b′ i ≡ transactionAt b i
-    → inAll b′ i ≡ inAll b i → (LastMessageIn (t .latest .0) b i → LastMessageIn (t .latest .0) b′ i) → TermsFor t b i
+    → inAll b′ i ≡ inAll b i → (LastMessageIn (t .frame .0) b i → LastMessageIn (t .frame .0) b′ i) → TermsFor t b i
     → TermsFor t′ b′ i
 terms-same t t′ b b′ i e d n l f =
     record {
@@ -302,7 +302,7 @@ module _ (c : Card) (slots : List ℕ) (b : Book) (r : CardFor c slots b) (s : S
     old-terms i l h =
         terms-same (sendingAt (c .sendings) i) (sendingAt (opened-card .sendings) i) b b′ i here
         (old-transaction i h) refl
-        (last-same (sendingAt (c .sendings) i .latest .0) b b′ i refl (λ k. refl) refl) (r .termsAre i l h)
+        (last-same (sendingAt (c .sendings) i .frame .0) b b′ i refl (λ k. refl) refl) (r .termsAre i l h)
       where
         here : sendingAt (opened-card .sendings) i ≡ sendingAt (c .sendings) i
         here =

@@ -205,7 +205,7 @@ module _ (c : Card) (slots : List ℕ) (b : Book) (r : CardFor c slots b) (s : S
         )))
 
     -- all are added: it was not finished, so that the frame of the latest was not released
-    module _ (all : inAll b k ≡ needed (transactionAt b k .count)) (f : LastMessageIn (terms .latest .0) b k) where
+    module _ (all : inAll b k ≡ needed (transactionAt b k .count)) (f : LastMessageIn (terms .frame .0) b k) where
       unreleased : releasedCount b ≤ f .frame
       unreleased = go (decLe (releasedCount b) (f .frame))
         where
@@ -290,7 +290,7 @@ module _ (c : Card) (slots : List ℕ) (b : Book) (r : CardFor c slots b) (s : S
   terms-kept i =
       terms-same (sendingAt (c .sendings) i) (sendingAt (read-card .sendings) i) b b′ i refl (rw transactions-same)
       (ap (count i) added-same)
-      (last-same (sendingAt (c .sendings) i .latest .0) b b′ i same-length (λ k. ap (count i) (taken-same k))
+      (last-same (sendingAt (c .sendings) i .frame .0) b b′ i same-length (λ k. ap (count i) (taken-same k))
       (ap (count i) added-same))
 
   pub card-read : CardFor (acknowledged c (x .first % frameSpace) (x .many)) slots b′

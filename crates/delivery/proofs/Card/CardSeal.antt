@@ -115,7 +115,7 @@ module _ (b b′ : Book) (sameTransactions : b′ .transactions ≡ b .transacti
       terms i =
           terms-same (sendingAt (c .sendings) i) (sendingAt (c .sendings) i) b b′ i refl
           (ap (λ (x : List Transaction). getD x i noTransaction) sameTransactions) (ap (count i) alike-added)
-          (last-same (sendingAt (c .sendings) i .latest .0) b b′ i sameLength (λ k. ap (count i) (sameTaken k))
+          (last-same (sendingAt (c .sendings) i .frame .0) b b′ i sameLength (λ k. ap (count i) (sameTaken k))
           (ap (count i) alike-added))
 
 -- ---- sealing
@@ -269,7 +269,7 @@ module _ (c : Card) (slots : List ℕ) (b : Book) (r : CardFor c slots b) (s : S
     unfolding enterSealing
     terms-kept i =
         terms-same (sendingAt (c .sendings) i) (sendingAt (c .sendings) i) b b′ i refl refl (ap (count i) added-same)
-        (last-kept (sendingAt (c .sendings) i .latest .0) i)
+        (last-kept (sendingAt (c .sendings) i .frame .0) i)
 
     pub card-sealed : CardFor sealed-card slots b′
     unfolding sealing enterSealing advance
