@@ -20,7 +20,7 @@ INSTALLED_LIB := $(INSTALLED)/lib/liblogwhisker.a
 C_STRICT := -std=c11 -O2 -Wall -Wextra -Wpedantic -Wconversion -Werror
 C_BUILD = $(CC) $(C_STRICT) $(CFLAGS) -I$(INSTALLED)/include
 C_LINK = -L$(INSTALLED)/lib -llogwhisker $(LDLIBS)
-# Options of the demonstration: frames=N seed=N loss=N repeat=N reorder=N seconds=N, in per cent where it is a share.
+# Options of the demonstration, such as DEMO='frames=3000 loss=10'; DEMO=help lists them.
 DEMO ?=
 DEMO_PROGRAMS := target/demo/card target/demo/relay target/demo/host
 

@@ -19,8 +19,7 @@ enum {
     RESEND_AFTER = 12, /* milliseconds without an acknowledgement */
     PATIENCE = 10000,  /* milliseconds without one at all: the host must have gone */
     MOST_MESSAGES = 8, /* of a transaction */
-    MOST_DATA = 480,   /* bytes of a message: as many as all of a transaction fit in a block */
-    COMPLETION = BLOCK_SIZE - 4 /* where a block has its completion */
+    MOST_DATA = (MOST_BLOCK - COMPLETION_SIZE) / MOST_MESSAGES /* bytes of a message */
 };
 
 /* The transaction whose messages are being added. */
@@ -52,7 +51,8 @@ struct sender {
     uint64_t heard; /* when the latest one came */
 
     struct bill bill;
-    uint8_t memory[MEMORY_SIZE]; /* what the host's has to be */
+    uint8_t memory[MOST_MEMORY]; /* what the host's has to be */
+    uint32_t memory_size;        /* as much of it as the host has */
 };
 
 /* ---- Sending ----------------------------------------------------------- */
@@ -127,9 +127,26 @@ static uint64_t seed_of(const struct sender *sender, uint64_t transaction, uint3
     return seed;
 }
 
-static uint32_t block_of(uint32_t transaction)
+static uint32_t block_size(const struct sender *sender)
 {
-    return transaction % BLOCKS * BLOCK_SIZE;
+    return sender->memory_size / BLOCKS;
+}
+
+static uint32_t block_of(const struct sender *sender, uint32_t transaction)
+{
+    return transaction % BLOCKS * block_size(sender);
+}
+
+/* Where a transaction's completion is written: at the end of its block. */
+static uint32_t completion_of(const struct sender *sender, uint32_t transaction)
+{
+    return block_of(sender, transaction) + block_size(sender) - COMPLETION_SIZE;
+}
+
+/* Bytes that a message may have, so that all of a transaction fit before its completion. */
+static uint32_t most_data(const struct sender *sender)
+{
+    return (block_size(sender) - COMPLETION_SIZE) / MOST_MESSAGES;
 }
 
 /* Opens the next transaction; false if acknowledgements are to be read first. */
@@ -141,7 +158,7 @@ static bool open_next(struct sender *sender)
     work.count = (uint16_t)random_below(&seed, MOST_MESSAGES + 1);
     work.messages = work.count == 0 ? 1 : work.count;
     /* Numbers are handed out in order, so the next one's block is known. */
-    const uint32_t address = block_of((uint32_t)sender->opened) + COMPLETION;
+    const uint32_t address = completion_of(sender, (uint32_t)sender->opened);
     if (lw_card_open_transaction(&sender->card, work.count, address, work.value,
                                  &work.transaction) != LW_NOT_REFUSED) {
         /* What fills the window may be in the frame being built. */
@@ -163,7 +180,7 @@ static void enter(struct sender *sender, uint32_t address, const uint8_t *data, 
     sender->bill.messages++;
     sender->bill.bytes += length;
     if (work->added == work->messages) {
-        put32(sender->memory + block_of(work->transaction) + COMPLETION, work->value);
+        put32(sender->memory + completion_of(sender, work->transaction), work->value);
         sender->bill.transactions++;
     }
 }
@@ -173,8 +190,9 @@ static bool add_next(struct sender *sender)
 {
     const struct work *work = &sender->work;
     uint64_t seed = seed_of(sender, work->transaction, 1 + work->added);
-    const uint32_t address = block_of(work->transaction) + work->added * MOST_DATA;
-    const size_t length = work->count == 0 ? 0 : random_below(&seed, MOST_DATA + 1);
+    const uint32_t most = most_data(sender);
+    const uint32_t address = block_of(sender, work->transaction) + work->added * most;
+    const size_t length = work->count == 0 ? 0 : random_below(&seed, most + 1);
     uint8_t data[MOST_DATA];
 
     for (size_t i = 0; i < length; i++)
@@ -233,7 +251,7 @@ static void read_all(struct sender *sender)
 
 static void report(const struct sender *sender)
 {
-    print_bill(&sender->bill, sender->memory);
+    print_bill(&sender->bill, sender->memory, sender->memory_size);
     printf("sealed %" PRIu64 "\nsent %" PRIu64 "\nsent-again %" PRIu64 "\nacknowledgements %" PRIu64
            "\n",
            sender->sealed, sender->sent, sender->sent_again, sender->acknowledgements);
@@ -277,13 +295,16 @@ static const char *run(struct sender *sender)
 
 int main(int argc, char **argv)
 {
-    static struct sender sender = {.seed = 1, .frames = 3000, .seconds = 50};
+    static struct sender sender = {
+        .seed = 1, .frames = 3000, .seconds = 50, .memory_size = MOST_MEMORY};
     uint32_t relay = 0;
-    const struct option options[] = {{"relay", &relay, UINT16_MAX},
-                                     {"seed", &sender.seed, UINT32_MAX},
-                                     {"frames", &sender.frames, 10000000},
-                                     {"seconds", &sender.seconds, 1000000}};
-    uint16_t port;
+    const struct option options[] = {
+        {"relay", &relay, 1, UINT16_MAX},
+        {"seed", &sender.seed, 0, UINT32_MAX},
+        {"frames", &sender.frames, 0, 10000000},
+        {"seconds", &sender.seconds, 1, 1000000},
+        {"memory", &sender.memory_size, LEAST_MEMORY, MOST_MEMORY}};
+    uint16_t port = 0;
 
     read_options(argc, argv, options, sizeof options / sizeof options[0]);
     sender.relay = local_address((uint16_t)relay);

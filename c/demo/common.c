@@ -48,7 +48,7 @@ static bool read_option(const char *text, const struct option *options, size_t c
         errno = 0;
         const unsigned long value = strtoul(digits, &end_of_digits, 10);
         if (*digits < '0' || *digits > '9' || *end_of_digits != '\0' || errno != 0 ||
-            value > options[i].most)
+            value < options[i].least || value > options[i].most)
             return false;
         *options[i].value = (uint32_t)value;
         return true;
@@ -61,9 +61,10 @@ void read_options(int argc, char **argv, const struct option *options, size_t co
     for (int i = 1; i < argc; i++) {
         if (read_option(argv[i], options, count))
             continue;
-        fprintf(stderr, "%s: '%s' is none of", argv[0], argv[i]);
+        fprintf(stderr, "%s: cannot take '%s'; there is", argv[0], argv[i]);
         for (size_t k = 0; k < count; k++)
-            fprintf(stderr, " %s=0..%" PRIu32, options[k].name, options[k].most);
+            fprintf(stderr, " %s=%" PRIu32 "..%" PRIu32, options[k].name, options[k].least,
+                    options[k].most);
         fputc('\n', stderr);
         exit(EXIT_FAILURE);
     }
@@ -79,7 +80,7 @@ struct sockaddr_in local_address(uint16_t port)
 
 int open_socket(uint16_t *port)
 {
-    struct sockaddr_in address = local_address(0);
+    struct sockaddr_in address = local_address(*port);
     socklen_t size = sizeof address;
     const int opened = socket(AF_INET, SOCK_DGRAM, 0);
 
@@ -139,12 +140,12 @@ uint32_t random_below(uint64_t *seed, uint32_t limit)
     return (uint32_t)(next_random(seed) % limit);
 }
 
-void print_bill(const struct bill *bill, const uint8_t memory[MEMORY_SIZE])
+void print_bill(const struct bill *bill, const uint8_t *memory, size_t size)
 {
     /* FNV-1a of 64 bits. */
     uint64_t digest = 0xcbf29ce484222325;
 
-    for (size_t i = 0; i < MEMORY_SIZE; i++)
+    for (size_t i = 0; i < size; i++)
         digest = (digest ^ memory[i]) * 0x100000001b3;
     printf("messages %" PRIu64 "\nbytes %" PRIu64 "\ntransactions %" PRIu64 "\nmemory %016" PRIx64
            "\n",

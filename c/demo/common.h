@@ -24,12 +24,15 @@ enum {
     FRAME_LIMIT = 1470,
     LONGEST_DATAGRAM = PREFIX + FRAME_LIMIT,
 
-    /* The host's memory: each transaction writes into one block, and its completion
-     * into the block's last bytes. There are twice as many blocks as transactions can
-     * be under way, so that nothing is written over before it is complete. */
+    /* The host's memory is parted into blocks: each transaction writes into one, and
+     * its completion into the block's last bytes. There are twice as many blocks as
+     * transactions can be under way, so that nothing is written over before it is
+     * complete. A block has room for a completion, at least. */
     BLOCKS = 2 * LW_TRANSACTION_WINDOW,
-    BLOCK_SIZE = 4096,
-    MEMORY_SIZE = BLOCKS * BLOCK_SIZE
+    COMPLETION_SIZE = 4,
+    MOST_BLOCK = 4096,
+    LEAST_MEMORY = BLOCKS * COMPLETION_SIZE,
+    MOST_MEMORY = BLOCKS * MOST_BLOCK
 };
 
 /* What is billed. Both ends print it in the same words, to be compared. */
@@ -43,6 +46,7 @@ struct bill {
 struct option {
     const char *name;
     uint32_t *value;
+    uint32_t least;
     uint32_t most;
 };
 
@@ -53,11 +57,12 @@ void end_on_signals(void);
 /* Says what failed, with the reason that errno gives, and ends the program. */
 _Noreturn void fail(const char *what);
 
-/* Stores the options that are given, or ends the program where one is unknown, no
- * number or too large. */
+/* Stores the options that are given, or ends the program where one is unknown or no
+ * number from least to most. */
 void read_options(int argc, char **argv, const struct option *options, size_t count);
 
-/* A socket on 127.0.0.1 that does not block, at a port that the system chooses. */
+/* A socket on 127.0.0.1 that does not block, at this port; where it is 0, at one
+ * that the system chooses and that is stored there. */
 int open_socket(uint16_t *port);
 struct sockaddr_in local_address(uint16_t port);
 
@@ -76,6 +81,6 @@ uint64_t next_random(uint64_t *seed);
 uint32_t random_below(uint64_t *seed, uint32_t limit);
 
 /* Prints the bill and a digest of the memory. */
-void print_bill(const struct bill *bill, const uint8_t memory[MEMORY_SIZE]);
+void print_bill(const struct bill *bill, const uint8_t *memory, size_t size);
 
 #endif

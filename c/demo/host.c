@@ -2,7 +2,8 @@
  * The charging host of the demonstration: receives datagrams on a UDP port, hands
  * each frame to the library and sends back the acknowledgement that the answer
  * calls for. Prints `port NUMBER` at the start and, when it is told to end by
- * SIGTERM, its bill and how many frames got which answer.
+ * SIGTERM, its bill and how many frames got which answer. Port and size of its
+ * memory can be set, so that its datagrams can be captured and replayed.
  */
 #define _POSIX_C_SOURCE 200809L
 
@@ -18,7 +19,8 @@ enum { PATIENCE = 20000 };
 
 struct receiver {
     lw_host host;
-    uint8_t memory[MEMORY_SIZE];
+    uint8_t memory[MOST_MEMORY];
+    uint32_t memory_size; /* as much of it as is lent */
     int socket;
     struct bill bill;
     uint64_t accepted;
@@ -55,7 +57,7 @@ static void receive_frame(struct receiver *receiver, const uint8_t *frame, size_
     uint8_t acknowledgement[LW_ACKNOWLEDGEMENT];
     lw_answer answer;
 
-    lw_host_receive(&receiver->host, frame, length, receiver->memory, sizeof receiver->memory,
+    lw_host_receive(&receiver->host, frame, length, receiver->memory, receiver->memory_size,
                     &answer);
     count_answer(receiver, &answer);
     if (lw_host_acknowledge(&receiver->host, &answer, 0, acknowledgement) == 1)
@@ -83,20 +85,24 @@ static bool receive_all(struct receiver *receiver)
 
 static void report(const struct receiver *receiver)
 {
-    print_bill(&receiver->bill, receiver->memory);
+    print_bill(&receiver->bill, receiver->memory, receiver->memory_size);
     printf("accepted %" PRIu64 "\nagain %" PRIu64 "\nno-messages %" PRIu64 "\nrefused %" PRIu64 "\n",
            receiver->accepted, receiver->again, receiver->no_messages, receiver->refused);
 }
 
 int main(int argc, char **argv)
 {
-    static struct receiver receiver;
-    uint16_t port;
+    static struct receiver receiver = {.memory_size = MOST_MEMORY};
+    uint32_t wanted = 0;
+    const struct option options[] = {
+        {"port", &wanted, 0, UINT16_MAX},
+        {"memory", &receiver.memory_size, LEAST_MEMORY, MOST_MEMORY}};
 
-    read_options(argc, argv, NULL, 0);
+    read_options(argc, argv, options, sizeof options / sizeof options[0]);
     end_on_signals();
     if (lw_host_open(&receiver.host, HOST_ID, CARD_ID) != LW_NOT_REFUSED)
         return EXIT_FAILURE;
+    uint16_t port = (uint16_t)wanted;
     receiver.socket = open_socket(&port);
     printf("port %u\n", port);
     fflush(stdout);

@@ -180,13 +180,13 @@ int main(int argc, char **argv)
         .to_card.name = "to-card",
         .options = {.seed = 1, .loss = 3, .repeat = 3, .reorder = 10}};
     struct options *const given = &relay.options;
-    const struct option options[] = {{"host", &given->host, UINT16_MAX},
-                                     {"seed", &given->seed, UINT32_MAX},
-                                     {"loss", &given->loss, 90},
-                                     {"repeat", &given->repeat, 100},
-                                     {"reorder", &given->reorder, 100}};
-    uint16_t port;
-    uint16_t unused;
+    const struct option options[] = {{"host", &given->host, 1, UINT16_MAX},
+                                     {"seed", &given->seed, 0, UINT32_MAX},
+                                     {"loss", &given->loss, 0, 90},
+                                     {"repeat", &given->repeat, 0, 100},
+                                     {"reorder", &given->reorder, 0, 100}};
+    uint16_t port = 0;
+    uint16_t unused = 0;
 
     read_options(argc, argv, options, sizeof options / sizeof options[0]);
     end_on_signals();
