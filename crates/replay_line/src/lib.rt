@@ -1,14 +1,12 @@
-// What the replay says of one line: the host's answer to the frame that it spells, the answer's text, and the totals. Assumes
-// nothing. It promises what specs/Report.antt says; proofs/Lines.antt shows it for the line's characters.
+// What the replay says of one line: the host's answer to the frame that it spells, the answer's text, and the totals.
+// Assumes nothing. It promises what specs/Report.antt says; proofs/Lines.antt shows it for the line's characters.
 use hex_line::Line;
 use host::Answer;
-use host::Pair;
 use host::Refusal;
-use host::Stepped;
 ghost use mathlib.Core.Path.{_≡_};
 ghost use mathlib.Core.List.{[], _∷_};
 ghost use Rattle.text_answer.specs.AnswerLine.{lineEnd, withLine};
-ghost use Rattle.host.specs.Host.{steppedOf};
+ghost use Rattle.host_words.specs.Words.{pairOf};
 ghost use Rattle.replay_line.specs.Report.{answeredLine, letterOf, numbersOf, totalled};
 
 // Sums over accepted frames.
@@ -18,25 +16,26 @@ pub struct Totals {
     pub completed: u64,
 }
 
-// Answers a line that has ended, its bytes at the start of frame.
-pub fn answer_line(pair: Pair, line: Line, frame: &[u8], memory: &mut [u8]) -> Stepped
-    ensures { λ r. ⌜ r ≡ steppedOf (answeredLine pair line (now (frame .entry)) (now (memory .entry))) ⌝ }
-    ensures { λ _. ⌜ now (memory .exit) ≡ answeredLine pair line (now (frame .entry)) (now (memory .entry)) .memory ⌝ }
+// Answers a line that has ended, its bytes at the start of frame; the host is in words.
+pub fn answer_line(words: &mut [u64; 67], line: Line, frame: &[u8], memory: &mut [u8]) -> Answer
+    ensures { λ r. ⌜ r
+        ≡ answeredLine (pairOf (now (words .entry))) line (now (frame .entry)) (now (memory .entry)) .answer ⌝ }
+    ensures { λ _. ⌜ pairOf (now (words .exit))
+        ≡ answeredLine (pairOf (now (words .entry))) line (now (frame .entry)) (now (memory .entry)) .pair ⌝ }
+    ensures { λ _. ⌜ now (memory .exit)
+        ≡ answeredLine (pairOf (now (words .entry))) line (now (frame .entry)) (now (memory .entry)) .memory ⌝ }
 {
     if line.is_refused() {
-        return Stepped {
-            pair,
-            answer: Answer::Refused(Refusal {
-                number: refusal::BAD_LINE,
-                place: 0,
-            }),
-        };
+        return Answer::Refused(Refusal {
+            number: refusal::BAD_LINE,
+            place: 0,
+        });
     }
-    host_receive::receive(pair, buffer::front(frame, line.len), memory)
+    logwhisker::receive(words, octets::front(frame, line.len), memory)
 }
 
-// Writes an answer's line into out from at on, and answers the index behind it; where it does not fit, nothing is written and the
-// answer is at.
+// Writes an answer's line into out from at on, and answers the index behind it; where it does not fit, nothing is
+// written and the answer is at.
 pub fn put_answer(out: &mut [u8], at: usize, answer: Answer) -> usize
     ensures { λ r. ⌜ r ≡ lineEnd (now (out .entry)) at (letterOf answer) (numbersOf answer) ⌝ }
     ensures { λ _. ⌜ now (out .exit) ≡ withLine (now (out .entry)) at (letterOf answer) (numbersOf answer) ⌝ }
