@@ -1,15 +1,20 @@
-// Replays a capture: reads lines of hexadecimal, one frame a line, from standard input, gives each frame to a charging host of own
-// ID 1 and peer 2, and writes the answers, and last the totals. All that matters is in the libraries below; what is assumed is
-// that read and write do what their pages say. Where one of them fails, that is said on standard error and no totals are written: a
-// program has no exit status, so it is the last line that tells a whole replay.
+// Replays a capture: reads lines of hexadecimal, one frame a line, from standard input, gives each frame to a charging
+// host of own ID 1 and peer 2, and writes the answers, and last the totals. All that matters is in the libraries below;
+// what is assumed is that read and write do what their pages say. Where one of them fails, that is said on standard
+// error and no totals are written: a program has no exit status, so it is the last line that tells a whole replay.
 use hex_line::Line;
-use host::Pair;
 use libc::STDIN_FILENO;
 use libc::STDOUT_FILENO;
 use replay_line::Totals;
 ghost use mathlib.Core.Path.{_≡_};
 ghost use Prim.Native.Nat.{_≤_, _<_};
 ghost use lib.ListN.{length};
+
+// The host's own ID.
+const OWN: u16 = 1;
+
+// The ID of the card that it receives from.
+const PEER: u16 = 2;
 
 // Lines that are answered.
 const LINES_MOST: u32 = 1000000;
@@ -19,7 +24,6 @@ const LINE_MOST: usize = 170;
 
 // Where the replay stands between two pieces of the input; failed says that reading or writing did.
 struct Replay {
-    pub pair: Pair,
     pub line: Line,
     pub totals: Totals,
     pub lines: u32,
@@ -50,8 +54,8 @@ fn write_out(out: &[u8], used: usize) -> bool {
     false
 }
 
-// The output buffer emptied where the next line might not fit. After a failure nothing more is written, so that the output has no
-// gap.
+// The output buffer emptied where the next line might not fit. After a failure nothing more is written, so that the
+// output has no gap.
 fn make_room(out: &[u8], used: usize, failed: bool) -> Room {
     if failed {
         return Room { used: 0, failed };
@@ -75,19 +79,21 @@ fn make_room(out: &[u8], used: usize, failed: bool) -> Room {
 }
 
 // Where the replay stands after a line that has ended: answered, and the next one not begun.
-fn answer_ended(state: Replay, frame: &[u8], memory: &mut [u8], out: &mut [u8]) -> Replay
+fn answer_ended(
+    state: Replay,
+    words: &mut [u64; 67],
+    frame: &[u8],
+    memory: &mut [u8],
+    out: &mut [u8],
+) -> Replay
     requires { ⌜ state .lines < 1000000 ⌝ }
 {
-    let before = state.pair;
     let line = state.line;
     let totals = state.totals;
-    let step = replay_line::answer_line(before, line, frame, memory);
-    let pair = step.pair;
-    let answer = step.answer;
+    let answer = replay_line::answer_line(words, line, frame, memory);
     let room = make_room(out, state.used, state.failed);
     let used = replay_line::put_answer(out, room.used, answer);
     Replay {
-        pair,
         line: Line::start(),
         totals: totals.with(answer),
         lines: state.lines + 1,
@@ -100,6 +106,7 @@ fn answer_ended(state: Replay, frame: &[u8], memory: &mut [u8], out: &mut [u8]) 
 fn take_piece(
     at_start: Replay,
     piece: &[u8],
+    words: &mut [u64; 67],
     frame: &mut [u8],
     memory: &mut [u8],
     out: &mut [u8],
@@ -113,7 +120,7 @@ fn take_piece(
         at = taken.at;
         state.line = now;
         if taken.ended {
-            let next = answer_ended(state, frame, memory, out);
+            let next = answer_ended(state, words, frame, memory, out);
             state = next;
         }
     }
@@ -143,11 +150,9 @@ fn stop(state: Replay, out: &[u8]) -> Replay {
     if !state.failed {
         write_out(out, state.used);
     }
-    let pair = state.pair;
     let line = state.line;
     let totals = state.totals;
     Replay {
-        pair,
         line,
         totals,
         lines: state.lines,
@@ -164,11 +169,12 @@ fn is_over(state: Replay) -> bool {
     LINES_MOST <= state.lines
 }
 
-// Takes in the input piece by piece, until it ends or enough lines are answered. A loop that is proved has to end, and nothing
-// says that the input does: no run uses these turns up.
+// Takes in the input piece by piece, until it ends or enough lines are answered. A loop that is proved has to end, and
+// nothing says that the input does: no run uses these turns up.
 fn read_all(
     at_start: Replay,
     piece: &mut [u8],
+    words: &mut [u64; 67],
     frame: &mut [u8],
     memory: &mut [u8],
     out: &mut [u8],
@@ -184,7 +190,7 @@ fn read_all(
         if got.count == 0 {
             return state;
         }
-        let next = take_piece(state, &piece[..got.count], frame, memory, out);
+        let next = take_piece(state, &piece[..got.count], words, frame, memory, out);
         state = next;
         if is_over(state) {
             return state;
@@ -194,7 +200,13 @@ fn read_all(
 }
 
 // A last line without a newline counts if it has a character.
-fn end_line(at_end: Replay, frame: &mut [u8], memory: &mut [u8], out: &mut [u8]) -> Replay {
+fn end_line(
+    at_end: Replay,
+    words: &mut [u64; 67],
+    frame: &mut [u8],
+    memory: &mut [u8],
+    out: &mut [u8],
+) -> Replay {
     if at_end.failed {
         return at_end;
     }
@@ -202,12 +214,18 @@ fn end_line(at_end: Replay, frame: &mut [u8], memory: &mut [u8], out: &mut [u8])
     if rest.is_empty() {
         return at_end;
     }
-    take_piece(at_end, b"\n", frame, memory, out)
+    take_piece(at_end, b"\n", words, frame, memory, out)
 }
 
 // The last line, and then the totals.
-fn finish(at_end: Replay, frame: &mut [u8], memory: &mut [u8], out: &mut [u8]) {
-    let state = end_line(at_end, frame, memory, out);
+fn finish(
+    at_end: Replay,
+    words: &mut [u64; 67],
+    frame: &mut [u8],
+    memory: &mut [u8],
+    out: &mut [u8],
+) {
+    let state = end_line(at_end, words, frame, memory, out);
     let t = state.totals;
     let numbers = [t.messages, t.bytes, t.completed];
     let room = make_room(out, state.used, state.failed);
@@ -219,14 +237,13 @@ fn finish(at_end: Replay, frame: &mut [u8], memory: &mut [u8], out: &mut [u8]) {
 }
 
 fn main() {
+    let mut words = [0u64; 67];
     let mut memory = [0u8; 4096];
     let mut frame = [0u8; 9001];
     let mut piece = io::large_buffer();
     let mut out = io::large_buffer();
-    let opened = host_pair::open_pair(1, 2);
-    let pair = opened.pair;
+    logwhisker::open_host(&mut words, OWN, PEER);
     let start = Replay {
-        pair,
         line: Line::start(),
         totals: Totals {
             messages: 0,
@@ -237,6 +254,13 @@ fn main() {
         used: 0,
         failed: false,
     };
-    let end = read_all(start, &mut piece, &mut frame, &mut memory, &mut out);
-    finish(end, &mut frame, &mut memory, &mut out);
+    let end = read_all(
+        start,
+        &mut piece,
+        &mut words,
+        &mut frame,
+        &mut memory,
+        &mut out,
+    );
+    finish(end, &mut words, &mut frame, &mut memory, &mut out);
 }

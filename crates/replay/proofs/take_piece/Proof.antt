@@ -24,11 +24,11 @@ further : (t : Taken) (line : Line) (frame : List ℕ) (from : ℕ) (piece : Lis
 further t line frame from piece e l = rw e (taken-further line frame from piece l)
 
 abbrev Inv-loop : tie.InvT-loop
-Inv-loop piece frame₀ memory₀ out₀ state₀ at₀ frame memory out state at =
+Inv-loop piece words₀ frame₀ memory₀ out₀ state₀ at₀ words frame memory out state at =
     (length frame ≡ length frame₀) × (length memory ≡ length memory₀) × (length out ≡ length out₀)
 
 abbrev μ-loop : tie.MeasureT-loop
-μ-loop piece frame₀ memory₀ out₀ state₀ at₀ frame memory out state at = length piece - at
+μ-loop piece words₀ frame₀ memory₀ out₀ state₀ at₀ words frame memory out state at = length piece - at
 
 loop-holds : tie.Need-loop-holds Inv-loop μ-loop
 loop-holds c = (refl, refl, refl)
@@ -38,19 +38,19 @@ take-in-requires c κs = search needs
 
 answer-ended-requires : tie.Need-answer-ended-requires Inv-loop μ-loop
 answer-ended-requires c κs =
-    let s = c .before .before .before .before .before .before .before .before .before .before in
+    let s = c .before .before .before .before .before .before .before .before .before .before .before in
     omega (arith, ltb-true (s .before .before .before .loop .state .lines) 1000000 (s .if1 .taken))
 
 loop-less : tie.Need-loop-less Inv-loop μ-loop
 loop-less c =
-    let s = c .before .before .before .before .before .before .before .before .before .before .before .before in
+    let s = c .before .before .before .before .before .before .before .before .before .before .before .before .before in
     let more = s .before .before .before .before .before .loop-test .taken in
     omega (arith, further _ _ _ _ _ (s .take-in .ensures .0) more, more)
 
 loop-again : tie.Need-loop-again Inv-loop μ-loop
 loop-again c =
-    let e = c .before .before .before .before .answer-ended .kept .1 .1 in
-    let s = c .before .before .before .before .before .before .before .before .before .before .before .before in
+    let e = c .before .before .before .before .answer-ended .kept .1 .1 .1 in
+    let s = c .before .before .before .before .before .before .before .before .before .before .before .before .before in
     let k = s .before .before .before .before .before .before .loop .inv in
     (s .take-in .kept .1 .0 ∙ k .0, e .0 ∙ k .1, e .1 .0 ∙ k .2)
 
