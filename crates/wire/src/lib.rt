@@ -9,6 +9,18 @@ ghost use Rattle.wire.specs.Format.{headerAfter};
 // Frames longer than this are refused.
 pub const FRAME_MOST: usize = 9000;
 
+// Bytes of a frame header.
+pub const FRAME_HEADER: usize = 10;
+
+// Bytes of a message header.
+pub const MESSAGE_HEADER: usize = 24;
+
+// Where in a message header the length of its data stands.
+pub const LENGTH_AT: usize = 20;
+
+// Where in a message header the trailing byte stands, which says whether another message follows.
+pub const TRAILING_AT: usize = 23;
+
 // The header of a frame, as it stands on the wire.
 pub struct FrameHeader {
     pub destination: u16,
@@ -29,10 +41,10 @@ pub fn next_header(end: usize) -> usize
     if LAST_HEADER < end {
         return 0;
     }
-    if end < 10 {
-        return 10;
+    if end < FRAME_HEADER {
+        return FRAME_HEADER;
     }
-    10 + (end - 10 + 7) / 8 * 8
+    FRAME_HEADER + (end - FRAME_HEADER + 7) / 8 * 8
 }
 
 // The header of a message: its transaction's number, where its completion goes and what that writes, how many data messages

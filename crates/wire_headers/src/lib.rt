@@ -1,6 +1,8 @@
 // Headers as bytes, and the acknowledgement frame, which is a frame header alone. Assumes nothing. It promises every byte, as
 // wire/specs/Writing.antt says.
 use seq::FrameNo;
+use wire::FRAME_HEADER;
+use wire::MESSAGE_HEADER;
 use wire::MessageHeader;
 ghost use mathlib.Core.Path.{_≡_};
 ghost use Rattle.wire.specs.Format.{carrying};
@@ -14,7 +16,7 @@ pub fn frame_head(
     start: FrameNo,
     count: u8,
     flags: u8,
-) -> [u8; 10]
+) -> [u8; FRAME_HEADER]
     ensures { λ r. ⌜ r ≡ frameHead to from (number .0) (start .0) count flags ⌝ }
 {
     [
@@ -33,7 +35,13 @@ pub fn frame_head(
 
 // An acknowledgement of count numbers from start on, from an end whose next message frame will have this number: the number
 // is not used up.
-pub fn ack_frame(to: u16, from: u16, number: FrameNo, start: FrameNo, count: u8) -> [u8; 10]
+pub fn ack_frame(
+    to: u16,
+    from: u16,
+    number: FrameNo,
+    start: FrameNo,
+    count: u8,
+) -> [u8; FRAME_HEADER]
     ensures { λ r. ⌜ r ≡ ackFrame to from (number .0) (start .0) count ⌝ }
 {
     if count == 0 {
@@ -43,7 +51,7 @@ pub fn ack_frame(to: u16, from: u16, number: FrameNo, start: FrameNo, count: u8)
 }
 
 // The header of a frame's last message, as its 24 bytes. Its length field has the length of the data modulo 65,536.
-pub fn message_head(h: MessageHeader, payload: &[u8]) -> [u8; 24]
+pub fn message_head(h: MessageHeader, payload: &[u8]) -> [u8; MESSAGE_HEADER]
     ensures { λ r. ⌜ r ≡ messageHead (carrying h (now (payload .entry))) 0 ⌝ }
 {
     let trans = h.trans.0;

@@ -90,7 +90,7 @@ pub fn is_addressed(f: &[u8], own: u16, peer: u16) -> bool
 pub fn heading_where(f: &[u8], ids: bool) -> u8
     ensures { λ r. ⌜ r ≡ headingOf ids (now (f .entry)) ⌝ }
 {
-    if f.len() < 10 {
+    if f.len() < wire::FRAME_HEADER {
         return refusal::FRAME_TOO_SHORT;
     }
     if wire::FRAME_MOST < f.len() {
@@ -120,7 +120,7 @@ fn walk(f: &[u8]) -> Layout
     requires { ⌜ length (now f) ≤ 9000 ⌝ }
     ensures { λ r. ⌜ r ≡ layoutOf (orPassesEnd (messagesFrom (length (now (f .entry))) (now (f .entry)) 10)) ⌝ }
 {
-    let mut at = 10;
+    let mut at = wire::FRAME_HEADER;
     let mut messages: u32 = 0;
     let mut bytes: u32 = 0;
     loop {

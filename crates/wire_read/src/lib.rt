@@ -93,21 +93,21 @@ pub fn message_at(f: &[u8], at: usize) -> Found
     ensures { λ r. ⌜ r ≡ foundAt (now (f .entry)) at ⌝ }
 {
     let size = f.len();
-    if size < 24 {
+    if size < wire::MESSAGE_HEADER {
         return Found::PastEnd;
     }
-    if size - 24 < at {
+    if size - wire::MESSAGE_HEADER < at {
         return Found::PastEnd;
     }
-    let len = u16_in(f, at + 20);
-    let end = at + 24 + len as usize;
+    let len = u16_in(f, at + wire::LENGTH_AT);
+    let end = at + wire::MESSAGE_HEADER + len as usize;
     if size < end {
         return Found::PastEnd;
     }
     Found::Whole(
         header_in(f, at),
         len,
-        f[at + 23] == 1,
+        f[at + wire::TRAILING_AT] == 1,
         wire::next_header(end),
     )
 }
@@ -118,14 +118,14 @@ pub fn data_at(f: &[u8], at: usize) -> &[u8]
     ensures { λ r. ⌜ now r ≡ dataAt (now (f .entry)) at ⌝ }
 {
     let size = f.len();
-    if size < 24 {
+    if size < wire::MESSAGE_HEADER {
         return &f[..0];
     }
-    if size - 24 < at {
+    if size - wire::MESSAGE_HEADER < at {
         return &f[..0];
     }
-    let start = at + 24;
-    let end = start + u16_in(f, at + 20) as usize;
+    let start = at + wire::MESSAGE_HEADER;
+    let end = start + u16_in(f, at + wire::LENGTH_AT) as usize;
     if size < end {
         return &f[..0];
     }

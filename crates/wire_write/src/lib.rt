@@ -10,6 +10,9 @@ ghost use lib.Seq.{sets};
 ghost use Rattle.wire.specs.Format.{carrying, nextHeader};
 ghost use Rattle.wire.specs.Writing.{messageHead, endOf, roomFor, firstMessage, nextMessage};
 
+// The longest gap before a message header: an empty frame's, which is as long as a frame header.
+const GAP_MOST: usize = 10;
+
 // A message at an offset where it lies in the slot: header and data.
 fn put_message(slot: &mut [u8], at: usize, h: MessageHeader, payload: &[u8])
     requires { ⌜ at + 24 + length (now payload) ≤ length (now slot) ⌝ }
@@ -17,7 +20,7 @@ fn put_message(slot: &mut [u8], at: usize, h: MessageHeader, payload: &[u8])
 {
     let head = wire_headers::message_head(h, payload);
     octets::write(slot, at, &head);
-    octets::write(slot, at + 24, payload);
+    octets::write(slot, at + wire::MESSAGE_HEADER, payload);
 }
 
 // Whether a message whose header stands at an offset lies in the slot, and its frame is no longer than a frame may be.
@@ -26,13 +29,13 @@ fn has_room(slot: &[u8], at: usize, payload: &[u8]) -> bool
     ensures { λ r. ⌜ r ≡ roomFor (now (slot .entry)) (at + 24 + length (now (payload .entry))) ⌝ }
 {
     let n = payload.len();
-    if wire::FRAME_MOST < at + 24 {
+    if wire::FRAME_MOST < at + wire::MESSAGE_HEADER {
         return false;
     }
-    if wire::FRAME_MOST - at - 24 < n {
+    if wire::FRAME_MOST - at - wire::MESSAGE_HEADER < n {
         return false;
     }
-    at + 24 + n <= slot.len()
+    at + wire::MESSAGE_HEADER + n <= slot.len()
 }
 
 // The first message of a frame: the frame header and the message, from the slot's start on. Answers whether there was room.
@@ -47,12 +50,12 @@ pub fn write_first(
     ensures { λ r. ⌜ r ≡ roomFor (now (slot .entry)) (endOf 10 (carrying h (now (payload .entry)))) ⌝ }
     ensures { λ _. ⌜ now (slot .exit) ≡ firstMessage (now (slot .entry)) to from (number .0) (carrying h (now (payload .entry))) ⌝ }
 {
-    if !has_room(slot, 10, payload) {
+    if !has_room(slot, wire::FRAME_HEADER, payload) {
         return false;
     }
     let head = wire_headers::frame_head(to, from, number, FrameNo(0), 0, 1);
     octets::write(slot, 0, &head);
-    put_message(slot, 10, h, payload);
+    put_message(slot, wire::FRAME_HEADER, h, payload);
     true
 }
 
@@ -76,7 +79,7 @@ pub fn write_next(
         return false;
     }
     set_follows(slot, last);
-    let zeros = [0u8; 10];
+    let zeros = [0u8; GAP_MOST];
     octets::write(slot, used, &zeros[..at - used]);
     put_message(slot, at, h, payload);
     true
@@ -94,11 +97,11 @@ fn header_behind(used: usize) -> usize
 fn set_follows(slot: &mut [u8], last: usize)
     ensures { λ _. ⌜ now (slot .exit) ≡ set (now (slot .entry)) (last + 23) 1 ⌝ }
 {
-    if slot.len() < 24 {
+    if slot.len() < wire::MESSAGE_HEADER {
         return;
     }
-    if slot.len() - 24 < last {
+    if slot.len() - wire::MESSAGE_HEADER < last {
         return;
     }
-    slot[last + 23] = 1;
+    slot[last + wire::TRAILING_AT] = 1;
 }
