@@ -1,14 +1,12 @@
 // Characters fed to a line of hexadecimal, piece by piece, with the bytes that they spell put into a lent frame. Assumes nothing: any
 // characters and any lengths get an answer. It promises the line, the index and every byte of the frame as hex_line/specs/Taking.antt
 // says.
+use hex_line::KEPT;
 use hex_line::Line;
 use hex_line::Taken;
 ghost use mathlib.Core.Path.{_≡_};
 ghost use lib.ListN.{drop};
 ghost use Rattle.hex_line.specs.Taking.{takenFrom, frameAfter};
-
-// Bytes of a line that are kept: one more than a frame can have, so that a longer line still reads as too long.
-const KEPT: usize = 9001;
 
 // Takes in the characters of piece from an index on, up to the end of the line, newline included, or of the piece. The
 // bytes that they spell go into frame. A frame shorter than KEPT keeps fewer of them, and they are counted all the same.
@@ -27,7 +25,7 @@ pub fn take_in(line: Line, frame: &mut [u8], piece: &[u8], from: usize) -> Taken
     while at < piece.len() {
         let c = piece[at];
         at += 1;
-        if c == 10 {
+        if c == b'\n' {
             return hex_line::taken_of(len, half, odd, bad, at, true);
         }
         let d = hex_line::digit_value(&values, c);

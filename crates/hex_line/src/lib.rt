@@ -6,7 +6,10 @@ ghost use lib.ListN.{getD};
 ghost use Rattle.hex_line.specs.Taking.{start, refusedLine, emptyLine, takenOf};
 ghost use Rattle.hex_line.specs.Walking.{digitValues};
 
-// The line being read: the bytes complete so far, of which no more than 9,001 are counted; the digit that waits for its
+// Bytes of a line that are kept: one more than a frame can have, so that a longer line still reads as too long.
+pub const KEPT: usize = 9001;
+
+// The line being read: the bytes complete so far, of which no more than KEPT are counted; the digit that waits for its
 // second half, if odd says that there is one; and whether a character was no digit.
 pub struct Line {
     pub len: usize,

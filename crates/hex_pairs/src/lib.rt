@@ -1,14 +1,12 @@
 // The pairs of digits at the front of a piece of a line, with their bytes put into a lent frame. Assumes nothing: any characters and
 // any lengths get an answer. It promises the line, the index and every byte of the frame as specs/Pairs.antt says; proofs/Laws.antt
 // shows that this is a part of the walk from character to character.
+use hex_line::KEPT;
 use hex_line::Line;
 use hex_line::Taken;
 ghost use mathlib.Core.Path.{_≡_};
 ghost use Prim.Native.Nat.{_-_, min};
 ghost use Rattle.hex_pairs.specs.Pairs.{pairsMost, frontOf};
-
-// Bytes of a line that are kept: one more than a frame can have, so that a longer line still reads as too long.
-const KEPT: usize = 9001;
 
 // The smaller of two numbers.
 fn least(a: usize, b: usize) -> usize

@@ -19,9 +19,6 @@ const PEER: u16 = 2;
 // Lines that are answered.
 const LINES_MOST: u32 = 1000000;
 
-// Room that the longest answer line needs.
-const LINE_MOST: usize = 170;
-
 // Where the replay stands between two pieces of the input; failed says that reading or writing did.
 struct Replay {
     pub line: Line,
@@ -66,7 +63,7 @@ fn make_room(out: &[u8], used: usize, failed: bool) -> Room {
             failed: true,
         };
     }
-    if LINE_MOST <= out.len() - used {
+    if text_answer::LINE_MOST <= out.len() - used {
         return Room { used, failed };
     }
     if write_out(out, used) {
@@ -239,7 +236,7 @@ fn finish(
 fn main() {
     let mut words = [0u64; 67];
     let mut memory = [0u8; 4096];
-    let mut frame = [0u8; 9001];
+    let mut frame = [0u8; hex_line::KEPT];
     let mut piece = io::large_buffer();
     let mut out = io::large_buffer();
     logwhisker::open_host(&mut words, OWN, PEER);

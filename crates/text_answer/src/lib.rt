@@ -8,15 +8,24 @@ ghost use lib.Seq.{sets};
 ghost use Rattle.text_answer.specs.Decimal.{decimal};
 ghost use Rattle.text_answer.specs.AnswerLine.{lineText, withLine, lineEnd};
 
+// Digits of the greatest 64-bit number.
+const DIGITS_MOST: usize = 20;
+
+// Numbers that a line can have.
+const NUMBERS_MOST: usize = 8;
+
+// Bytes of the longest line: a letter, that many numbers of a space and DIGITS_MOST digits each, and a newline.
+pub const LINE_MOST: usize = 170;
+
 // Puts a space and a number's digits into text from at on, and answers the index behind.
 fn put_number(text: &mut [u8], at: usize, x: u64) -> usize
     requires { ⌜ at + 21 ≤ length (now text) ⌝ }
     ensures { λ r. ⌜ (r ≡ at + length (32 ∷ decimal x)) × (r ≤ at + 21) ⌝ }
     ensures { λ _. ⌜ now (text .exit) ≡ sets (now (text .entry)) at (32 ∷ decimal x) ⌝ }
 {
-    let mut digits = [0u8; 20];
+    let mut digits = [0u8; DIGITS_MOST];
     let n = io::decimal(x, &mut digits);
-    text[at] = 32;
+    text[at] = b' ';
     octets::write(text, at + 1, &digits[..n]);
     at + 1 + n
 }
@@ -34,7 +43,7 @@ fn put_text(text: &mut [u8], letter: u8, numbers: &[u64]) -> usize
         n = put_number(text, n, numbers[i]);
         i += 1;
     }
-    text[n] = 10;
+    text[n] = b'\n';
     n + 1
 }
 
@@ -44,11 +53,10 @@ pub fn put_line(out: &mut [u8], at: usize, letter: u8, numbers: &[u64]) -> usize
     ensures { λ r. ⌜ r ≡ lineEnd (now (out .entry)) at letter (now (numbers .entry)) ⌝ }
     ensures { λ _. ⌜ now (out .exit) ≡ withLine (now (out .entry)) at letter (now (numbers .entry)) ⌝ }
 {
-    if 8 < numbers.len() {
+    if NUMBERS_MOST < numbers.len() {
         return at;
     }
-    // a letter, 8 numbers of a space and 20 digits each, and a newline
-    let mut text = [0u8; 170];
+    let mut text = [0u8; LINE_MOST];
     let n = put_text(&mut text, letter, numbers);
     if octets::write(out, at, &text[..n]) {
         return at + n;
