@@ -1,7 +1,7 @@
 -- `octets::copy` leaves dst as src, by either way of copying.
 -- Assumes nothing.
-use borrow.Author.Needs.{needs}
 use Rattle.octets.proofs.Octets.{copy-over}
+use borrow.Author.Needs.{needs}
 use Rattle.octets.proofs.copy.Statement.{statement}
 use Rattle.octets.proofs.copy.Tie as tie
 use Rattle.octets.proofs.copy.Reads as reads
@@ -11,6 +11,9 @@ use Rattle.octets.proofs.copy_short.Reads as copy-short-reads
 
 copy-short-requires : tie.Need-copy-short-requires
 copy-short-requires c κs = search needs
+
+copy-short-requires-2 : tie.Need-copy-short-requires-2
+copy-short-requires-2 c κs = search needs
 
 copy-requires : tie.Need-copy-requires
 copy-requires c κs = search needs
@@ -25,9 +28,24 @@ same-length-2 : tie.Need-same-length-2
 same-length-2 c = search needs
 
 returns-2 : tie.Need-returns-2
-returns-2 c = copy-over _ _ _ (c .before .before .before .before .before .before .before .pre) (c .before .before .copy .ensures .1)
+returns-2 c = search needs
+
+same-length-3 : tie.Need-same-length-3
+same-length-3 c = search needs
+
+returns-3 : tie.Need-returns-3
+returns-3 c = copy-over _ _ _ (c .before .before .before .before .before .before .before .before .pre) (c .before .before .copy .ensures .1)
 
 pub copy-spec : {M : Type 1} → statement M
 copy-spec =
     tie.close
-    (tie.spec copy-short-requires copy-requires same-length returns same-length-2 returns-2)
+    (tie.spec
+    copy-short-requires
+    copy-short-requires-2
+    copy-requires
+    same-length
+    returns
+    same-length-2
+    returns-2
+    same-length-3
+    returns-3)
