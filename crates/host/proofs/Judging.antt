@@ -51,7 +51,8 @@ module _ (lowest closed : ℕ) (o : Open) (h : MessageHeader) (len size d r : �
 
 -- ---- a message that is not refused
 
--- one that does not fill its transaction, of which fewer were received than the count or none: with it, they still are fewer
+-- one that does not fill its transaction, of which fewer were received than the count or none: with it, they still are
+-- fewer
 pub fills-left : (o : Open) (h : MessageHeader) → (o .received ≡ 0) ⊎ (o .received < h .count) → fills o h ≡ false
     → suc (o .received) < h .count
 unfolding fills needed

@@ -1,6 +1,5 @@
--- What holds of a message that is not refused: its transaction is in the window and not closed, and its header agrees with what was
--- said of it.
--- Assumes nothing.
+-- What holds of a message that is not refused: its transaction is in the window and not closed, and its header agrees
+-- with what was said of it. Assumes nothing.
 use mathlib.Core.Path.{_≡_, refl, sym}
 use mathlib.Core.Logic.{_≢_}
 use mathlib.Core.Bool.{Bool, true, false, true≢false}

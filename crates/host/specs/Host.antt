@@ -127,9 +127,9 @@ transactionsOf p = record { lowest = p .lowest .0; closed = p .closed; table = p
 abbrev pub tallyOf : Pair → List ℕ → Tally
 tallyOf p memory = record { transactions = transactionsOf p; memory = memory; messages = 0; bytes = 0; completed = 0 }
 
--- A frame with messages, d past the next one: behind from 32,768 on, in the window up to 63 and ahead between (behind and ahead are
--- terms of the rules). What is behind, or in the window and accepted, is answered "again"; what is ahead gets 6; else its messages
--- are taken in.
+-- A frame with messages, d past the next one: behind from 32,768 on, in the window up to 63 and ahead between (behind
+-- and ahead are terms of the rules). What is behind, or in the window and accepted, is answered "again"; what is ahead
+-- gets 6; else its messages are taken in.
 unfoldable pub byNumber : Pair → List ℕ → ℕ → List Message → Received
 byNumber p memory num ms =
     let d = distance frameSpace (p .next .0) num in
@@ -151,16 +151,16 @@ steppedOf r = record { pair = r .pair; answer = r .answer }
 
 -- ---- acknowledging
 
--- The frame numbers that an answer acknowledges: `count` of them from `start` on. Accepted and again acknowledge exactly their
--- own number.
+-- The frame numbers that an answer acknowledges: `count` of them from `start` on. Accepted and again acknowledge
+-- exactly their own number.
 abbrev pub rangeOf : Answer → Range
 rangeOf (Accepted n sums) = record { start = n; count = 1 }
 rangeOf (Again n) = record { start = n; count = 1 }
 rangeOf NoMessages = record { start = record { 0 = 0 }; count = 0 }
 rangeOf (Refused r) = record { start = record { 0 = 0 }; count = 0 }
 
--- An acknowledgement is due where the range is not empty; it goes from the pair's own ID to the peer's and carries the number
--- that the caller gives.
+-- An acknowledgement is due where the range is not empty; it goes from the pair's own ID to the peer's and carries the
+-- number that the caller gives.
 unfoldable pub acknowledgementFrom : ℕ → ℕ → Answer → ℕ → Acknowledgement
 acknowledgementFrom own peer a num = record {
   due = ltb 0 (rangeOf a .count);
@@ -172,15 +172,15 @@ acknowledgementOf p a num = acknowledgementFrom (p .own) (p .peer) a num
 
 -- ---- answers as numbers
 
--- Kind, number, messages, data bytes, completed transactions, refusal and place. The kinds are 1 for accepted, 2 for again, 3 for no
--- messages and 4 for refused; what a kind does not have is 0.
+-- Kind, number, messages, data bytes, completed transactions, refusal and place. The kinds are 1 for accepted, 2 for
+-- again, 3 for no messages and 4 for refused; what a kind does not have is 0.
 abbrev pub answerWords : Answer → List ℕ
 answerWords (Accepted n sums) = 1 ∷ n .0 ∷ sums .messages ∷ sums .bytes ∷ sums .completed ∷ 0 ∷ 0 ∷ []
 answerWords (Again n) = 2 ∷ n .0 ∷ 0 ∷ 0 ∷ 0 ∷ 0 ∷ 0 ∷ []
 answerWords NoMessages = 3 ∷ 0 ∷ 0 ∷ 0 ∷ 0 ∷ 0 ∷ 0 ∷ []
 answerWords (Refused r) = 4 ∷ 0 ∷ 0 ∷ 0 ∷ 0 ∷ r .number ∷ r .place ∷ []
 
--- What is left of an answer in its kind and number, as far as it calls for an acknowledgement: accepted and again call for one of the
--- number, modulo 65,536, and no other kind does.
+-- What is left of an answer in its kind and number, as far as it calls for an acknowledgement: accepted and again call
+-- for one of the number, modulo 65,536, and no other kind does.
 abbrev pub answerOf : ℕ → ℕ → Answer
 answerOf kind num = cond (eqb kind 1 || eqb kind 2) (Again (record { 0 = num % frameSpace })) NoMessages

@@ -1,5 +1,5 @@
--- What a message is refused for at the host, held against the window of 32 transactions, its transaction's entry in the table, and
--- the memory: refusals 7 to 12.
+-- What a message is refused for at the host, held against the window of 32 transactions, its transaction's entry in the
+-- table, and the memory: refusals 7 to 12.
 use Prim.Native.Nat.{ℕ, _+_}
 use mathlib.Core.Bool.{Bool, cond, not, _&&_, _||_}
 use lib.Dec.{eqb, leb, ltb}
@@ -17,8 +17,8 @@ agrees o h =
     eqb (o .received) 0
     || (eqb (o .count) (h .count) && (eqb (o .address) (h .«completion_address») && eqb (o .value) (h .«completion_value»)))
 
--- Refusals 7 to 10 of a message with `len` data bytes, 0 for none. `d` is how far its transaction lies past the lowest one that
--- is not complete, `closed` marks closed ones from there on, and `o` is its transaction's entry in the table.
+-- Refusals 7 to 10 of a message with `len` data bytes, 0 for none. `d` is how far its transaction lies past the lowest
+-- one that is not complete, `closed` marks closed ones from there on, and `o` is its transaction's entry in the table.
 unfoldable pub termsRefusal : ℕ → ℕ → Open → MessageHeader → ℕ → ℕ
 termsRefusal d closed o h len =
     cond (leb 32 d) 7

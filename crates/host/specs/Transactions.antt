@@ -1,5 +1,5 @@
--- The host's transactions: the verdict on a message, and what an accepted one does to its transaction and to the window of 32
--- transactions from the lowest one not complete on.
+-- The host's transactions: the verdict on a message, and what an accepted one does to its transaction and to the window
+-- of 32 transactions from the lowest one not complete on.
 use Prim.Native.Nat.{ℕ, suc, _%_}
 use mathlib.Core.Bool.{Bool, true, false, cond}
 use mathlib.Core.List.{List}
@@ -14,13 +14,13 @@ use Rattle.host.specs.declared.Open.{Open}
 use Rattle.host.specs.Terms.{free, messageRefusal}
 use Rattle.host.specs.declared.Verdict.{Verdict}
 
--- Whether the messages received equal the count, with this one. (Where more were received already, which no run reaches, they
--- never do.)
+-- Whether the messages received equal the count, with this one. (Where more were received already, which no run
+-- reaches, they never do.)
 unfoldable pub fills : Open → MessageHeader → Bool
 fills o h = eqb (needed (h .count)) (suc (o .received))
 
--- A transaction's entry with one message more, which does not complete it. Received has 16 bits and counts modulo 65,536: in a
--- pair that a run reaches it is below the count and does not come round.
+-- A transaction's entry with one message more, which does not complete it. Received has 16 bits and counts modulo
+-- 65,536: in a pair that a run reaches it is below the count and does not come round.
 abbrev pub oneMore : Open → MessageHeader → Open
 oneMore o h = record { count = h .count; address = h .«completion_address»; value = h .«completion_value»; received = suc (o .received) % 65536 }
 
@@ -28,8 +28,8 @@ oneMore o h = record { count = h .count; address = h .«completion_address»; va
 abbrev pub leftIn : Open → MessageHeader → Open
 leftIn o h = cond (fills o h) free (oneMore o h)
 
--- The verdict on a message: refused and nothing changed; or its transaction is complete, so that it is closed and the window
--- moves past consecutive closed ones; or it is open with one message more.
+-- The verdict on a message: refused and nothing changed; or its transaction is complete, so that it is closed and the
+-- window moves past consecutive closed ones; or it is open with one message more.
 unfoldable pub refusing : ℕ → ℕ → ℕ → Open → Verdict
 refusing r lowest closed o = record { refusal = r; done = false; lowest = record { 0 = lowest }; closed = closed; entry = o }
 
@@ -64,8 +64,8 @@ verdictOf lowest closed o h len size =
 
 -- ---- the whole table
 
--- What a host knows of transactions: the lowest not complete, marks of closed ones from there on, and the open ones, each in the
--- entry of the table that its number modulo 32 gives.
+-- What a host knows of transactions: the lowest not complete, marks of closed ones from there on, and the open ones,
+-- each in the entry of the table that its number modulo 32 gives.
 pub record Transactions : Type 0 where
   pub lowest : ℕ
   pub closed : ℕ

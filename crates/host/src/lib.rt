@@ -1,6 +1,6 @@
-// The charging host's end of a pair by value: what it knows, and what it answers. Types only. What opening, receiving and
-// acknowledging come to is defined in specs/: Terms.antt and Transactions.antt for one message, Host.antt for frames. What
-// specs/Reachable.antt says is kept by all of it.
+// The charging host's end of a pair by value: what it knows, and what it answers. Types only. What opening, receiving
+// and acknowledging come to is defined in specs/: Terms.antt and Transactions.antt for one message, Host.antt for
+// frames. What specs/Reachable.antt says is kept by all of it.
 use seq::FrameNo;
 use seq::TransNo;
 
@@ -20,8 +20,8 @@ pub const FREE: Open = Open {
     received: 0,
 };
 
-// The verdict on a message: its refusal, or 0; whether it completes its transaction; and the window and the transaction's entry
-// after it.
+// The verdict on a message: its refusal, or 0; whether it completes its transaction; and the window and the
+// transaction's entry after it.
 pub struct Verdict {
     pub refusal: u8,
     pub done: bool,
@@ -30,9 +30,9 @@ pub struct Verdict {
     pub entry: Open,
 }
 
-// What the host knows of its peer's frames and transactions. Bit i of marks stands for the frame next + i and is set where that
-// was accepted; bit i of closed for the transaction lowest + i. An open transaction is in the entry of the table that its number
-// modulo 32 gives; an entry with none is all zeros.
+// What the host knows of its peer's frames and transactions. Bit i of marks stands for the frame next + i and is set
+// where that was accepted; bit i of closed for the transaction lowest + i. An open transaction is in the entry of the
+// table that its number modulo 32 gives; an entry with none is all zeros.
 pub struct Pair {
     pub own: u16,
     pub peer: u16,

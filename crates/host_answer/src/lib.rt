@@ -1,5 +1,5 @@
-// Answers as words that C reads, and the acknowledgement that an answer calls for, with the pair in lent words. Assumes nothing: any
-// words have an answer. It promises host/specs/Host.antt, answerWords and acknowledgementOf.
+// Answers as words that C reads, and the acknowledgement that an answer calls for, with the pair in lent words. Assumes
+// nothing: any words have an answer. It promises host/specs/Host.antt, answerWords and acknowledgementOf.
 use host::Acknowledgement;
 use host::Answer;
 use seq::FrameNo;

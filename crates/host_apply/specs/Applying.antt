@@ -1,5 +1,6 @@
--- The second pass over a frame's messages: what each of them, none refused, leaves of its transaction's entry and of memory. Nothing of
--- this needs to be believed: host_receive/proofs/Passes.antt shows that both passes come to takeAll of host/specs/Host.antt.
+-- The second pass over a frame's messages: what each of them, none refused, leaves of its transaction's entry and of
+-- memory. Nothing of this needs to be believed: host_receive/proofs/Passes.antt shows that both passes come to takeAll
+-- of host/specs/Host.antt.
 use Prim.Native.Nat.{ℕ, zero, suc, _%_}
 use mathlib.Core.Path.{_≡_}
 use mathlib.Core.Logic.{_≢_}

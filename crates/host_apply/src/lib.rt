@@ -1,6 +1,7 @@
-// The second pass over a frame's messages, of which the first pass found none refused: each takes effect in its turn, on its
-// transaction's entry in the words and on memory. Assumes nothing: a write that does not fit the memory is none, and where there are
-// not 67 words nothing changes. It promises the pair and every byte of the memory (specs/Applying.antt).
+// The second pass over a frame's messages, of which the first pass found none refused: each takes effect in its turn,
+// on its transaction's entry in the words and on memory. Assumes nothing: a write that does not fit the memory is none,
+// and where there are not 67 words nothing changes. It promises the pair and every byte of the memory
+// (specs/Applying.antt).
 use wire::MessageHeader;
 use wire_read::Found;
 ghost use mathlib.Core.Path.{_≡_};

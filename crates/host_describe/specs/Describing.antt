@@ -1,5 +1,5 @@
--- A pair described in 167 words: own ID, peer ID, next frame, marks, lowest transaction, closed ones, how many are open, and then five
--- words for each open one; the rest is 0.
+-- A pair described in 167 words: own ID, peer ID, next frame, marks, lowest transaction, closed ones, how many are
+-- open, and then five words for each open one; the rest is 0.
 use Prim.Native.Nat.{ℕ, zero, suc, _+_, _%_}
 use mathlib.Core.Path.{_≡_}
 use mathlib.Core.Logic.{_⊎_}
@@ -27,7 +27,8 @@ isOpen p j = ltb 0 (entryAt p j .received)
 abbrev pub five : ℕ → Open → List ℕ
 five number o = number ∷ o .address ∷ o .value ∷ o .count ∷ o .received ∷ []
 
--- Those of the open ones among the n transactions from the j-th past the lowest on, nearest first; and how many they are.
+-- Those of the open ones among the n transactions from the j-th past the lowest on, nearest first; and how many they
+-- are.
 unfoldable pub openWords : ℕ → ℕ → Pair → List ℕ
 openWords zero j p = []
 openWords (suc n) j p = cond (isOpen p j) (five (numberAt p j) (entryAt p j)) [] ++ openWords n (suc j) p

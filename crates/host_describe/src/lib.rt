@@ -1,5 +1,5 @@
-// A pair in lent words described for its owner: IDs, windows, and the open transactions nearest the lowest one first. Assumes nothing of
-// the words. It promises specs/Describing.antt, description, of the pair that they hold.
+// A pair in lent words described for its owner: IDs, windows, and the open transactions nearest the lowest one first.
+// Assumes nothing of the words. It promises specs/Describing.antt, description, of the pair that they hold.
 use host::Open;
 ghost use mathlib.Core.Path.{_≡_};
 ghost use Prim.Native.Nat.{_<_, _≤_, _+_, _*_};

@@ -1,6 +1,6 @@
-// One message at the host: refusals 7 to 12, whether it completes its transaction, and the verdict with the state that it leaves.
-// Assumes nothing of the state that it is held against, which may be one that no run reaches. It promises host/specs/Terms.antt,
-// messageRefusal, and host/specs/Transactions.antt, fills and verdictOf.
+// One message at the host: refusals 7 to 12, whether it completes its transaction, and the verdict with the state that
+// it leaves. Assumes nothing of the state that it is held against, which may be one that no run reaches. It promises
+// host/specs/Terms.antt, messageRefusal, and host/specs/Transactions.antt, fills and verdictOf.
 use bitmap::word32;
 use host::Open;
 use host::Verdict;
@@ -118,8 +118,8 @@ fn closed_after(lowest: TransNo, closed: u32, d: u32) -> Verdict
     }
 }
 
-// The verdict on a message with len data bytes, against the window and the entry of its transaction in the table, and a memory
-// of size bytes.
+// The verdict on a message with len data bytes, against the window and the entry of its transaction in the table, and a
+// memory of size bytes.
 pub fn judge(
     lowest: TransNo,
     closed: u32,

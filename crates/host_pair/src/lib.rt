@@ -1,5 +1,5 @@
-// Opening a pair, and the acknowledgement that an answer calls for, by value. Assumes nothing. It promises host/specs/Host.antt,
-// openedOf and acknowledgementOf.
+// Opening a pair, and the acknowledgement that an answer calls for, by value. Assumes nothing. It promises
+// host/specs/Host.antt, openedOf and acknowledgementOf.
 use host::Acknowledgement;
 use host::Answer;
 use host::Opened;
@@ -74,7 +74,8 @@ fn range_of(answer: Answer) -> Range
     }
 }
 
-// The acknowledgement that an answer calls for, from an end with these IDs whose next message frame will have this number.
+// The acknowledgement that an answer calls for, from an end with these IDs whose next message frame will have this
+// number.
 pub fn acknowledge_from(own: u16, peer: u16, answer: Answer, number: FrameNo) -> Acknowledgement
     ensures { λ r. ⌜ r ≡ acknowledgementFrom own peer answer (number .0) ⌝ }
 {

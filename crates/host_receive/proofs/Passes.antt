@@ -1,5 +1,5 @@
--- Two passes over a frame's messages, first validating all and then applying them, come to what taking them in one after another does.
--- Assumes nothing.
+-- Two passes over a frame's messages, first validating all and then applying them, come to what taking them in one
+-- after another does. Assumes nothing.
 use mathlib.Core.Path.{_≡_, refl, sym, _∙_, ap}
 use mathlib.Core.Logic.{_≢_}
 use mathlib.Core.Bool.{Bool, true, false}

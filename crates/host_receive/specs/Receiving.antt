@@ -17,8 +17,8 @@ use Rattle.host.specs.Host.{refused, receiveOf}
 use Rattle.host_words.specs.declared.Head.{Head}
 use Rattle.host_words.specs.Words.{wordCount, otherLength, pairOf, headPart, joined}
 
--- Receiving a frame in 67 words: the pair that they hold then, the memory and the answer are those of the pair that they held. Words of
--- another number stay as they are, as does the memory, and the answer is no refusal of the rules.
+-- Receiving a frame in 67 words: the pair that they hold then, the memory and the answer are those of the pair that
+-- they held. Words of another number stay as they are, as does the memory, and the answer is no refusal of the rules.
 abbrev pub Receives : List ℕ → List ℕ → List ℕ → List ℕ → List ℕ → Answer → Type 0
 Receives w f memory left memory-left a =
     (length w ≡ wordCount
@@ -42,8 +42,8 @@ refusedWith own peer f stop place =
     let cut = layoutRefusal own peer f in
     cond (eqb cut 0) (refused stop place) (refused cut 0)
 
--- A frame that is not taken in, by how far it lies past the next one: behind from 32,768 on, in the window up to 63 and ahead
--- between. Its layout comes first.
+-- A frame that is not taken in, by how far it lies past the next one: behind from 32,768 on, in the window up to 63 and
+-- ahead between. Its layout comes first.
 unfoldable pub numberAnswered : ℕ → ℕ → List ℕ → ℕ → ℕ → Answer
 numberAnswered own peer f num d =
     let cut = layoutRefusal own peer f in

@@ -1,6 +1,6 @@
-// Receiving a frame in place: the pair lies in 67 words that the caller lends, and the frame and the memory are lent too. Nothing is
-// written before the last message is validated. Assumes nothing. It promises pair, answer and every byte of memory as
-// host/specs/Host.antt, receiveOf, says of the pair that the words hold (specs/Receiving.antt).
+// Receiving a frame in place: the pair lies in 67 words that the caller lends, and the frame and the memory are lent
+// too. Nothing is written before the last message is validated. Assumes nothing. It promises pair, answer and every
+// byte of memory as host/specs/Host.antt, receiveOf, says of the pair that the words hold (specs/Receiving.antt).
 use bitmap::word64;
 use host::Answer;
 use host::Pair;
@@ -58,8 +58,8 @@ fn refuse(own: u16, peer: u16, f: &[u8], stop: u8, place: u32) -> Answer
     refusing(stop, place)
 }
 
-// The answer to a frame with messages, d past the next one, that is behind, ahead, or in the window and accepted already: its
-// layout comes first.
+// The answer to a frame with messages, d past the next one, that is behind, ahead, or in the window and accepted
+// already: its layout comes first.
 fn answer_by_number(own: u16, peer: u16, f: &[u8], number: FrameNo, d: u16) -> Answer
     ensures { λ r. ⌜ r ≡ numberAnswered own peer (now (f .entry)) (number .0) d ⌝ }
 {
@@ -76,8 +76,8 @@ fn answer_by_number(own: u16, peer: u16, f: &[u8], number: FrameNo, d: u16) -> A
     refusing(refusal::FRAME_AHEAD, 0)
 }
 
-// A frame is accepted: its number is marked, next moves past every consecutive accepted number, and the transactions' window is the
-// one that the frame leaves.
+// A frame is accepted: its number is marked, next moves past every consecutive accepted number, and the transactions'
+// window is the one that the frame leaves.
 fn accept(words: &mut [u64], number: FrameNo, lowest: TransNo, closed: u32)
     ensures { λ _. ⌜ Accepts (now (words .entry)) (now (words .exit)) (number .0) (lowest .0) closed ⌝ }
 {
@@ -95,8 +95,8 @@ fn accept(words: &mut [u64], number: FrameNo, lowest: TransNo, closed: u32)
     host_words::put_head(words, head);
 }
 
-// A frame with messages, in the window and not accepted yet: its messages are validated, and where none is refused all take effect.
-// The first pass finds a bad layout by itself.
+// A frame with messages, in the window and not accepted yet: its messages are validated, and where none is refused all
+// take effect. The first pass finds a bad layout by itself.
 fn take_in(words: &mut [u64], f: &[u8], memory: &mut [u8], number: FrameNo) -> Answer
     ensures { λ r. ⌜ TakesFrame (now (words .entry)) (now (f .entry)) (now (memory .entry)) (number .0) (now (words .exit)) (now (memory .exit)) r ⌝ }
 {

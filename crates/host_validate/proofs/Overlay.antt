@@ -1,5 +1,5 @@
--- The entries that a frame changed, beside the words: what is kept of them stands for the table as the messages so far leave it.
--- Assumes nothing.
+-- The entries that a frame changed, beside the words: what is kept of them stands for the table as the messages so far
+-- leave it. Assumes nothing.
 use mathlib.Core.Path.{_≡_, refl, sym, _∙_, ap}
 use mathlib.Core.Logic.{_≢_, _⊎_, inl, inr}
 use mathlib.Core.Bool.{Bool, true, false, cond, true≢false}

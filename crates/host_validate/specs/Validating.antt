@@ -1,5 +1,6 @@
--- The first pass over a frame's messages: what judging them one after another finds. Nothing is written by it. Nothing of this needs to
--- be believed: host_receive/proofs/Passes.antt shows that both passes come to takeAll of host/specs/Host.antt.
+-- The first pass over a frame's messages: what judging them one after another finds. Nothing is written by it. Nothing
+-- of this needs to be believed: host_receive/proofs/Passes.antt shows that both passes come to takeAll of
+-- host/specs/Host.antt.
 use Prim.Native.Nat.{ℕ, zero, suc, _+_, _%_}
 use mathlib.Core.Path.{_≡_}
 use mathlib.Core.Logic.{_⊎_}
@@ -18,8 +19,8 @@ use Rattle.host.specs.Host.{transactionsOf}
 use Rattle.host_words.specs.Words.{entryOf, pairOf, HoldsEntry}
 use Rattle.host_validate.specs.declared.Validated.{Validated}
 
--- The messages judged so far: the transactions as they leave them, how many there are, their data bytes, and how many of them complete
--- their transaction.
+-- The messages judged so far: the transactions as they leave them, how many there are, their data bytes, and how many
+-- of them complete their transaction.
 pub record Progress : Type 0 where
   pub transactions : Transactions
   pub messages : ℕ
@@ -60,8 +61,8 @@ passed g = record {
   closed = g .transactions .closed;
 }
 
--- The messages from the header at an offset on, each judged against what those before it leave, up to the first that is refused
--- or passes the frame's end. As many turns as the frame has bytes are enough.
+-- The messages from the header at an offset on, each judged against what those before it leave, up to the first that is
+-- refused or passes the frame's end. As many turns as the frame has bytes are enough.
 unfoldable pub validatedFrom : ℕ → List ℕ → ℕ → ℕ → Progress → Validated
 validatedFrom zero f size at g = refusedAt 5 (g .messages)
 validatedFrom (suc turns) f size at g =

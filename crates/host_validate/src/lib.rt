@@ -1,5 +1,6 @@
-// The first pass over a frame's messages: each is judged against what those before it leave, and nothing is written. The entries of the
-// table are read in the words. Assumes nothing: any bytes and any words get an answer. It promises specs/Validating.antt.
+// The first pass over a frame's messages: each is judged against what those before it leave, and nothing is written.
+// The entries of the table are read in the words. Assumes nothing: any bytes and any words get an answer. It promises
+// specs/Validating.antt.
 use bitmap::word32;
 use host::Open;
 use host::Verdict;
@@ -13,8 +14,8 @@ ghost use Rattle.host_words.specs.Words.{pairOf};
 ghost use lib.ListN.{length};
 ghost use Rattle.host_validate.specs.Validating.{refusedAt, validatedOf, current, Marks, Notes, Finds};
 
-// What is found of a frame: a refusal, and then messages is the index of the message that it is about and all else is 0; or
-// none, and then the sums, and the transactions' window as it is after the frame.
+// What is found of a frame: a refusal, and then messages is the index of the message that it is about and all else is
+// 0; or none, and then the sums, and the transactions' window as it is after the frame.
 pub struct Validated {
     pub refusal: u8,
     pub messages: u32,
@@ -132,8 +133,8 @@ fn marked(changed: u32, number: u32, o: Open, done: bool) -> u32
     word32::with_mark(changed, number % 32)
 }
 
-// Judges a frame's messages for a memory of size bytes, up to the first that is refused or passes the end (5), or that meets an
-// entry again which the frame changed; 2 where the frame is too long to be read.
+// Judges a frame's messages for a memory of size bytes, up to the first that is refused or passes the end (5), or that
+// meets an entry again which the frame changed; 2 where the frame is too long to be read.
 fn find_apart(words: &[u64], f: &[u8], size: usize) -> Validated
     ensures { λ r. ⌜ Finds (now (words .entry)) (now (f .entry)) size r ⌝ }
 {
@@ -209,9 +210,9 @@ fn find_kept(words: &[u64], kept: &mut [u64], f: &[u8], size: usize) -> Validate
     }
 }
 
-// Judges a frame's messages, each against what those before it leave. At first changed entries are not kept, which is enough for a
-// frame whose messages are of different transactions or each complete theirs; only where one is met again, all is judged anew with
-// words to keep them in, whose clearing costs as much as a short frame.
+// Judges a frame's messages, each against what those before it leave. At first changed entries are not kept, which is
+// enough for a frame whose messages are of different transactions or each complete theirs; only where one is met again,
+// all is judged anew with words to keep them in, whose clearing costs as much as a short frame.
 pub fn validate(words: &[u64], f: &[u8], size: usize) -> Validated
     ensures { λ r. ⌜ r ≡ validatedOf (now (f .entry)) (transactionsOf (pairOf (now (words .entry)))) size ⌝ }
 {

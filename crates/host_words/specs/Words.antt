@@ -1,5 +1,6 @@
--- A host's pair in 67 words that a caller lends: the IDs and the next frame, the marks, the transactions' window, and two words for each
--- entry of the table. Any words at all hold a pair: one that is not there counts as 0, and bits that have no meaning are not looked at.
+-- A host's pair in 67 words that a caller lends: the IDs and the next frame, the marks, the transactions' window, and
+-- two words for each entry of the table. Any words at all hold a pair: one that is not there counts as 0, and bits that
+-- have no meaning are not looked at.
 use Prim.Native.Nat.{ℕ, zero, suc, _+_, _*_, _/_, _%_}
 use mathlib.Core.Path.{_≡_}
 use mathlib.Core.Logic.{_≢_}

@@ -1,6 +1,6 @@
-// The charging host's pair in 67 words that a caller lends: reading and writing it where it lies, packing and unpacking it, and
-// opening it there. Assumes nothing of the words or of their number: a word that is not there is 0, and a write there is none. It
-// promises what the words hold then (specs/Words.antt).
+// The charging host's pair in 67 words that a caller lends: reading and writing it where it lies, packing and unpacking
+// it, and opening it there. Assumes nothing of the words or of their number: a word that is not there is 0, and a write
+// there is none. It promises what the words hold then (specs/Words.antt).
 use host::Open;
 use host::Pair;
 use seq::FrameNo;

@@ -1,5 +1,10 @@
+<<<<<<< HEAD
 // Bytes that a caller lends: writing into a memory, all of it where it lies inside, else nothing; the first bytes of a slice;
 // numbers as bytes. Assumes nothing. It promises the whole memory as it is then (specs/Octets.antt).
+=======
+// Writing bytes into a memory that the caller lends: all of them where they lie inside it, else none. Assumes nothing.
+// It promises the whole memory as it is then (specs/Octets.antt).
+>>>>>>> d021241 (Lay out the host's files, with comments of up to 120 columns)
 ghost use mathlib.Core.Path.{_≡_};
 ghost use Prim.Native.Nat.{_≤_};
 ghost use lib.ListN.{length, set, take};
@@ -25,8 +30,8 @@ pub fn write(memory: &mut [u8], at: usize, src: &[u8]) -> bool
     true
 }
 
-// dst becomes src, which is as long. Eight bytes, which many messages have, come first: where the compiler knows how many there are,
-// it moves them at once.
+// dst becomes src, which is as long. Eight bytes, which many messages have, come first: where the compiler knows how
+// many there are, it moves them at once.
 fn copy(dst: &mut [u8], src: &[u8])
     requires { ⌜ length (now src) ≡ length (now dst) ⌝ }
     ensures { λ _. ⌜ now (dst .exit) ≡ now (src .entry) ⌝ }
@@ -40,8 +45,8 @@ fn copy(dst: &mut [u8], src: &[u8])
     }
 }
 
-// The same for as much as a frame can carry. By way of the local array the compiler sees that what is read is not what is
-// written, and makes one memmove of the two copies, and no array.
+// The same for as much as a frame can carry. By way of the local array the compiler sees that what is read is not what
+// is written, and makes one memmove of the two copies, and no array.
 fn copy_short(dst: &mut [u8], src: &[u8])
     requires { ⌜ (length (now src) ≡ length (now dst)) × (length (now src) ≤ 9000) ⌝ }
     ensures { λ _. ⌜ now (dst .exit) ≡ now (src .entry) ⌝ }
