@@ -654,7 +654,7 @@ FLOORS = {
     "face": ("face: what a Rattle caller uses", TEAL, ("ground", "wire", "host", "card", "theorem")),
     "text": ("text: hexadecimal and decimal lines", ROSE, ("kit", "ground")),
     "replay": ("replay: the program", ROSE, ("kit", "ground", "host", "face", "text")),
-    "capi": ("C: what the header is made of", TEAL, ("ground", "face")),
+    "capi": ("C: what the header is made of", TEAL, ("ground", "wire", "host", "card", "theorem", "face")),
 }
 NAMED = {
     "seq": "ground", "bitmap": "ground", "octets": "ground", "refusal": "ground", "delivery": "theorem", "edges": "theorem",
@@ -715,7 +715,7 @@ def boxes(p, names, left, right, y):
 
 def draw_crates(sees):
     p = Picture("crates.svg", 1000, band_y(len(HEIGHTS)) + 6, "The house: floors, their crates, and which floor stands on which")
-    p.text(30, 28, "A crate sees crates of its own floor and of the floors below it that an arrow leads to.", 12.5, "start", SOFT)
+    p.text(30, 28, "A floor stands on those that its arrows lead to, and on what is below them.", 12.5, "start", SOFT)
     names = list(sees) + sorted({b for seen in sees.values() for b in seen if b not in sees})
     for floor, (left, right, row) in BANDS.items():
         title, fill, _ = FLOORS[floor]
