@@ -1,10 +1,5 @@
-<<<<<<< HEAD
 // Bytes that a caller lends: writing into a memory, all of it where it lies inside, else nothing; the first bytes of a slice;
 // numbers as bytes. Assumes nothing. It promises the whole memory as it is then (specs/Octets.antt).
-=======
-// Writing bytes into a memory that the caller lends: all of them where they lie inside it, else none. Assumes nothing.
-// It promises the whole memory as it is then (specs/Octets.antt).
->>>>>>> d021241 (Lay out the host's files, with comments of up to 120 columns)
 ghost use mathlib.Core.Path.{_≡_};
 ghost use Prim.Native.Nat.{_≤_};
 ghost use lib.ListN.{length, set, take};
