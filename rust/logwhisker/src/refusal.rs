@@ -45,7 +45,7 @@ refusals! {
     /// The transaction is in the window and complete.
     TRANSACTION_CLOSED = 8,
     /// Count, completion address or value differs from the open transaction's.
-    HEADER_DIFFERS = 9,
+    TRANSACTION_DIFFERS = 9,
     /// Data, though no data messages are counted.
     BARE_WITH_DATA = 10,
     /// The data would pass the end of memory.
