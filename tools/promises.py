@@ -7,15 +7,14 @@ write as it is at exit, with a definition, over any input. So for each `pub fn`:
   for each parameter of type `&mut`, an `ensures` with an equation whose left side is that parameter at exit.
 An equation with the same thing on its right side says nothing and does not count. A relation that a file of specs/
 defines counts where its definition equates: without a condition, or in both of two cases `a ≡ b → ..` and
-`a ≢ b → ..`. What else is needed is an exemption with its reason (EXEMPT in tools/check-claims).
+`a ≢ b → ..`; a relation that it names is read in its place. A result that is a struct is also known where every field
+of it is equated. What else is needed is an exemption with its reason (EXEMPT in tools/check-claims).
 """
 import re
 
 # Under these functions a result or a buffer at exit may be equated: the state that words stand for. What is left open
 # then is what the words do not mean.
 MEANINGS = ("pairOf", "cardOf")
-# Structs of one field, which are known when that field is.
-ONE_FIELD = ("FrameNo", "TransNo")
 
 HEAD = re.compile(r'\bpub\s+(?:extern\s+"C"\s+)?fn\s+(\w+)\s*(?:<[^>]*>)?\s*\(')
 CLAUSE = re.compile(r"\s*(requires|ensures|decreases|measure)\b[^{]*\{")
@@ -113,32 +112,56 @@ def public_functions(text):
         yield Function(head.start(), head.group(1), parameters, result.group(1) if result else "", clauses)
 
 
+def structs_of(files):
+    """The fields of the public structs of sources: of each name its fields; of one declared twice none."""
+    found = {}
+    for name in files:
+        with open(name, encoding="utf-8") as file:
+            text = without_comments(file.read())
+        for struct in re.finditer(r"\bpub struct (\w+)\s*(?:\{([^}]*)\}|\(([^)]*)\))", text):
+            named = re.findall(r"(\w+)\s*:", struct.group(2) or "")
+            places = [str(i) for i, t in enumerate(split_at(struct.group(3) or "", ",")) if t.strip()]
+            found[struct.group(1)] = [] if struct.group(1) in found else named or places
+    return found
+
+
 def relations_of(files):
     """The relations that files of specs/ define: of each name its definitions, as (parameters, cases). A case is
     (conditions, left side, right side) of an equation."""
-    found = {}
+    texts = {}
     for name in files:
         with open(name, encoding="utf-8") as file:
             text = re.sub(r"--[ -].*", "", file.read())
         for match in re.finditer(r"^([A-Z]\w*)((?: [\w'-]+)*) =((?:.*\n)(?:[ \t]+.*\n)*)", text, flags=re.M):
-            found.setdefault(match.group(1), []).append((match.group(2).split(), list(cases(match.group(3), ()))))
-    return found
+            texts.setdefault(match.group(1), []).append((match.group(2).split(), match.group(3)))
+    return {n: [(ps, list(cases(body, (), texts))) for ps, body in of] for n, of in texts.items()}
 
 
-def cases(text, conditions):
-    """The equations of a proposition, each with the conditions under which it says them."""
+def cases(text, conditions, texts):
+    """The equations of a proposition, each with the conditions under which it says them. A relation of texts that it
+    names, and that has one definition, is read in its place."""
     parts = split_at(bare(text), "→")
     if len(parts) > 1:
-        yield from cases(parts[-1], conditions + tuple(bare(part) for part in parts[:-1]))
+        yield from cases(parts[-1], conditions + tuple(bare(part) for part in parts[:-1]), texts)
         return
     parts = split_at(bare(text), "×")
     if len(parts) > 1:
         for part in parts:
-            yield from cases(part, conditions)
+            yield from cases(part, conditions, texts)
         return
     sides = split_at(bare(text), "≡")
     if len(sides) == 2:
         yield conditions, bare(sides[0]), bare(sides[1])
+        return
+    name, *arguments = split_at(bare(text), " ")
+    if len(texts.get(name, ())) == 1 and len(arguments) == len(texts[name][0][0]):
+        parameters, body = texts[name][0]
+        yield from cases(replaced(body, dict(zip(parameters, arguments))), conditions, texts)
+
+
+def replaced(text, terms):
+    """A text with names replaced by terms, all at once."""
+    return re.sub(r"(?<![\w'.-])[\w'-]+", lambda m: terms.get(m.group(), m.group()), text)
 
 
 def determines(definition, at):
@@ -175,15 +198,14 @@ def speaks_of(side, subject):
     return re.search(rf"(?<![\w'.]){re.escape(subject)}(?![\w'])", side) is not None
 
 
-def equates_result(function, relations, lets_off):
-    """Whether a promise of the function says what it returns."""
+def equates_result(function, relations, structs, lets_off):
+    """Whether a promise of the function says what it returns: as a whole, or each field of it."""
     if related(function, lambda r: r, relations, lets_off):
         return True
-    for r, left, right in function.equations():
-        field = [f"{r} .0"] if function.result in ONE_FIELD else []
-        if r != "_" and is_left(left, r, field) and not speaks_of(right, r):
-            return True
-    return False
+    said = [(r, left) for r, left, right in function.equations() if r != "_" and not speaks_of(right, r)]
+    fields = structs.get(function.result, [])
+    each = [any(left == f"{r} .{field}" for r, left in said) for field in fields]
+    return any(is_left(left, r, []) for r, left in said) or (fields != [] and all(each))
 
 
 def equates_at_exit(function, parameter, relations, lets_off):
@@ -194,11 +216,11 @@ def equates_at_exit(function, parameter, relations, lets_off):
     return any(is_left(left, exit, []) and exit not in right for _, left, right in function.equations())
 
 
-def faults(function, relations, lets_off):
+def faults(function, relations, structs, lets_off):
     """What is missing in a function's promise, in words."""
     if any(kind == "requires" for kind, _ in function.clauses):
         yield "has a `requires`"
-    if function.result not in ("", "()") and not equates_result(function, relations, lets_off):
+    if function.result not in ("", "()") and not equates_result(function, relations, structs, lets_off):
         yield "has no `ensures` that equates its result"
     for parameter in function.lent_for_writing():
         if not equates_at_exit(function, parameter, relations, lets_off):
