@@ -34,7 +34,7 @@ check:
 # Proves, builds and runs the replay on a sample capture, or on FRAMES=file.
 replay:
 	@mkdir -p target
-	@[ -x target/bin/replay ] || echo 'make replay: proves the replay first, which takes a minute or two' >&2
+	@[ -x target/bin/replay ] || echo 'make replay: proves the replay and all below it first, which takes some minutes' >&2
 	@rt check replay > target/replay.log 2>&1 || { cat target/replay.log; exit 1; }
 	@target/bin/replay < $(FRAMES)
 
