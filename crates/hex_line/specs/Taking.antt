@@ -63,8 +63,8 @@ takenOf len half odd bad at ended = record {
 abbrev pub behind : ℕ → List ℕ → ℕ
 behind from cs = from + length (upToNewline cs) + cond (hasNewline cs) 1 0
 
--- What taking in the characters from an index on gives: the state after those before the newline, the index behind them, and
--- whether there was a newline. No characters leave all as it was.
+-- What taking in the characters from an index on gives: the state after those before the newline, the index behind
+-- them, and whether there was a newline. No characters leave all as it was.
 unfoldable pub takenFrom : Line → List ℕ → ℕ → List ℕ → Taken
 takenFrom line frame from cs = record {
   line = after (record { line = line; frame = frame }) (upToNewline cs) .line;

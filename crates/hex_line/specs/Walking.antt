@@ -18,8 +18,8 @@ digitValues = valuesFrom 256 0
 abbrev pub stateOf : Line → List ℕ → State
 stateOf line frame = record { line = line; frame = frame }
 
--- A walk over a piece that began at one index and in one state has come to another: going on from there gives the state,
--- the index and the end that the whole walk gives.
+-- A walk over a piece that began at one index and in one state has come to another: going on from there gives the
+-- state, the index and the end that the whole walk gives.
 pub record Walked (begun : State) (piece : List ℕ) (from : ℕ) (s : State) (at : ℕ) : Type 0 where
   pub size : length (s .frame) ≡ length (begun .frame)
   pub is : after begun (upToNewline (drop from piece)) ≡ after s (upToNewline (drop at piece))

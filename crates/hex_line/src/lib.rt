@@ -1,5 +1,6 @@
-// A line of hexadecimal: what is known of it after some of its characters, and the values of digits. Assumes nothing. It promises
-// what specs/Taking.antt says of a line and specs/Walking.antt of the table; proofs/Decoding.antt shows what frame a line spells.
+// A line of hexadecimal: what is known of it after some of its characters, and the values of digits. Assumes nothing.
+// It promises what specs/Taking.antt says of a line and specs/Walking.antt of the table; proofs/Decoding.antt shows
+// what frame a line spells.
 ghost use mathlib.Core.Path.{_≡_};
 ghost use Prim.Native.Nat.{_<_};
 ghost use lib.ListN.{getD};
@@ -79,8 +80,9 @@ pub fn taken_of(len: usize, half: u8, odd: bool, bad: bool, at: usize, ended: bo
     }
 }
 
-// The value of each character as a digit, and 16 where it is none, sixteen characters to a row: 0 to 9 are in the fourth
-// row, A to F in the fifth, a to f in the seventh. A loop calls it before its first turn, since a call copies the table.
+// The value of each character as a digit, and 16 where it is none, sixteen characters to a row: 0 to 9 are in the
+// fourth row, A to F in the fifth, a to f in the seventh. A loop calls it before its first turn, since a call copies
+// the table.
 pub fn digit_values() -> [u8; 256]
     ensures { λ r. ⌜ r ≡ digitValues ⌝ }
 {

@@ -1,5 +1,5 @@
--- Pairs of digits: a turn of the loop that takes them, and that they are a part of the walk from character to character.
--- Assumes nothing.
+-- Pairs of digits: a turn of the loop that takes them, and that they are a part of the walk from character to
+-- character. Assumes nothing.
 use mathlib.Core.Path.{_≡_, refl, sym, _∙_, ap}
 use mathlib.Core.Bool.{Bool, true, false}
 use mathlib.Core.List.{List}
@@ -164,7 +164,8 @@ module _ (bad : Bool) (piece : List ℕ) where
           → Dec (15 < valueAt piece at) → Dec (15 < valueAt piece (at + 1))
           → WalkedTo bad piece at len half frame (pairsFrom bad piece (suc n) at len half frame)
       go ih (yes h) l = rw (stops-high bad piece n at len half frame h) (none-walked at len half frame)
-      go ih (no h) (yes l) = rw (stops-low bad piece n at len half frame (omega arith) l) (none-walked at len half frame)
+      go ih (no h) (yes l) =
+          rw (stops-low bad piece n at len half frame (omega arith) l) (none-walked at len half frame)
       go ih (no h) (no l) =
           let a = valueAt piece at in
           let b = valueAt piece (at + 1) in

@@ -1,5 +1,5 @@
--- Pairs of digits at the front of a piece of the input, taken two characters at a time. proofs/Laws.antt shows that they come to
--- what hex_line/specs/Taking.antt says of the characters one by one.
+-- Pairs of digits at the front of a piece of the input, taken two characters at a time. proofs/Laws.antt shows that
+-- they come to what hex_line/specs/Taking.antt says of the characters one by one.
 use Prim.Native.Nat.{ℕ, zero, suc, _+_, _-_, _*_, _/_, min}
 use mathlib.Core.Bool.{Bool, false, cond}
 use mathlib.Core.List.{List}
@@ -37,5 +37,6 @@ pairsFrom bad piece (suc n) at len half frame =
 unfoldable pub frontOf : Line → List ℕ → List ℕ → ℕ → Front
 frontOf line frame piece from =
     cond (line .odd) (record { taken = record { line = line; at = from; ended = false }; frame = frame })
-    (pairsFrom (line .bad) piece (pairsMost (line .len) (length frame) from (length piece)) from (line .len) (line .half)
+    (pairsFrom (line .bad) piece (pairsMost (line .len) (length frame) from (length piece)) from (line .len)
+    (line .half)
     frame)

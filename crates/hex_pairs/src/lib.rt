@@ -1,6 +1,6 @@
-// The pairs of digits at the front of a piece of a line, with their bytes put into a lent frame. Assumes nothing: any characters and
-// any lengths get an answer. It promises the line, the index and every byte of the frame as specs/Pairs.antt says; proofs/Laws.antt
-// shows that this is a part of the walk from character to character.
+// The pairs of digits at the front of a piece of a line, with their bytes put into a lent frame. Assumes nothing: any
+// characters and any lengths get an answer. It promises the line, the index and every byte of the frame as
+// specs/Pairs.antt says; proofs/Laws.antt shows that this is a part of the walk from character to character.
 use hex_line::KEPT;
 use hex_line::Line;
 use hex_line::Taken;
@@ -33,8 +33,8 @@ fn pairs_until(len: usize, size: usize, from: usize, end: usize) -> usize
     len + least(most - len, (end - from) / 2)
 }
 
-// Takes in pairs of digits, a byte each, for as long as there are any that are kept, and leaves the rest to the caller. Most
-// of a replay's time goes here: a turn tests no index, and looks both digits up before it tests either, which the
+// Takes in pairs of digits, a byte each, for as long as there are any that are kept, and leaves the rest to the caller.
+// Most of a replay's time goes here: a turn tests no index, and looks both digits up before it tests either, which the
 // compiler makes into one jump.
 pub fn take_pairs(line: Line, frame: &mut [u8], piece: &[u8], from: usize) -> Taken
     ensures { λ r. ⌜ r ≡ frontOf line (now (frame .entry)) (now (piece .entry)) from .taken ⌝ }

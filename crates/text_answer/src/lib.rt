@@ -1,5 +1,5 @@
-// Answer lines: a letter, numbers in decimal with a space before each, and a newline, put into a lent buffer. Assumes nothing. It
-// promises the whole line where that fits, and otherwise that nothing is written: specs/AnswerLine.antt.
+// Answer lines: a letter, numbers in decimal with a space before each, and a newline, put into a lent buffer. Assumes
+// nothing. It promises the whole line where that fits, and otherwise that nothing is written: specs/AnswerLine.antt.
 ghost use mathlib.Core.Path.{_≡_};
 ghost use mathlib.Core.List.{_∷_};
 ghost use Prim.Native.Nat.{_+_, _≤_};

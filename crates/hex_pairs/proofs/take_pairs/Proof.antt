@@ -73,7 +73,9 @@ taken-of-requires-3 : tie.Need-taken-of-requires-3 Inv-loop μ-loop
 taken-of-requires-3 c κs = search needs
 
 same-length-2 : tie.Need-same-length-2 Inv-loop μ-loop
-same-length-2 c = c .before .before .before .before .before .before .before .before .before .before .loop .inv .size
+same-length-2 c =
+    let high = c .before .before .before .before .before .before in
+    high .before .before .before .before .loop .inv .size
 
 returns-3 : tie.Need-returns-3 Inv-loop μ-loop
 returns-3 c =
