@@ -1,5 +1,5 @@
-// Headers as bytes, and the acknowledgement frame, which is a frame header alone. Assumes nothing. It promises every byte, as
-// wire/specs/Writing.antt says.
+// Headers as bytes, and the acknowledgement frame, which is a frame header alone. Assumes nothing. It promises every
+// byte, as wire/specs/Writing.antt says.
 use seq::FrameNo;
 use wire::FRAME_HEADER;
 use wire::MESSAGE_HEADER;
@@ -7,6 +7,9 @@ use wire::MessageHeader;
 ghost use mathlib.Core.Path.{_≡_};
 ghost use Rattle.wire.specs.Format.{carrying};
 ghost use Rattle.wire.specs.Writing.{frameHead, messageHead, ackFrame};
+
+// What stands in a byte of a field that has no use.
+const UNUSED: u8 = 0;
 
 // A frame header as its 10 bytes.
 pub fn frame_head(
@@ -33,8 +36,8 @@ pub fn frame_head(
     ]
 }
 
-// An acknowledgement of count numbers from start on, from an end whose next message frame will have this number: the number
-// is not used up.
+// An acknowledgement of count numbers from start on, from an end whose next message frame will have this number: the
+// number is not used up.
 pub fn ack_frame(
     to: u16,
     from: u16,
@@ -75,15 +78,15 @@ pub fn message_head(h: MessageHeader, payload: &[u8]) -> [u8; MESSAGE_HEADER]
         (value / 256 / 256 / 256 % 256) as u8,
         (count % 256) as u8,
         (count / 256 % 256) as u8,
-        0,
-        0,
+        UNUSED,
+        UNUSED,
         (at % 256) as u8,
         (at / 256 % 256) as u8,
         (at / 256 / 256 % 256) as u8,
         (at / 256 / 256 / 256 % 256) as u8,
         (len % 256) as u8,
         (len / 256 % 256) as u8,
-        0,
+        UNUSED,
         0,
     ]
 }
