@@ -25,7 +25,8 @@ unfolding foundAt
 found-past f at h = rw (lt-leb (dataEnd f at) (length f) h)
 
 pub found-whole : (f : List ℕ) (at : ℕ) → dataEnd f at ≤ length f
-    → Whole (headAt f at) (field f (at + 20) 2) (follows (field f (at + 23) 1)) (nextHeader (dataEnd f at)) ≡ foundAt f at
+    → Whole (headAt f at) (field f (at + 20) 2) (follows (field f (at + 23) 1)) (nextHeader (dataEnd f at))
+    ≡ foundAt f at
 unfolding foundAt
 found-whole f at h = rw (le-leb (dataEnd f at) (length f) h)
 

@@ -37,8 +37,8 @@ headerOf f = record {
 unfoldable pub headAt : List ℕ → ℕ → MessageHeader
 headAt f at = headOf (messageAt f at)
 
--- That message: its header, the length of its data, whether another follows and where that one's header would stand; or that it
--- passes the frame's end.
+-- That message: its header, the length of its data, whether another follows and where that one's header would stand; or
+-- that it passes the frame's end.
 unfoldable pub foundAt : List ℕ → ℕ → Found
 foundAt f at =
     cond (leb (dataEnd f at) (length f))

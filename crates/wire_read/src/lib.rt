@@ -1,5 +1,5 @@
-// Reading a lent frame: its header, and its messages one by one with their data as parts of the frame. Assumes nothing: any bytes
-// get an answer. It promises what specs/Finding.antt says, over the format of the crate wire.
+// Reading a lent frame: its header, and its messages one by one with their data as parts of the frame. Assumes nothing:
+// any bytes get an answer. It promises what specs/Finding.antt says, over the format of the crate wire.
 use seq::FrameNo;
 use seq::TransNo;
 use wire::FrameHeader;
@@ -112,8 +112,8 @@ pub fn message_at(f: &[u8], at: usize) -> Found
     )
 }
 
-// The data of the message whose header stands at an offset: the part of the frame past the 24-byte header. No bytes where
-// the message passes the frame's end.
+// The data of the message whose header stands at an offset: the part of the frame past the 24-byte header. No bytes
+// where the message passes the frame's end.
 pub fn data_at(f: &[u8], at: usize) -> &[u8]
     ensures { λ r. ⌜ now r ≡ dataAt (now (f .entry)) at ⌝ }
 {

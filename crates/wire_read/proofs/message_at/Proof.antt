@@ -2,6 +2,7 @@
 -- Assumes nothing.
 use Prim.Native.Nat.{_+_, _≤_}
 use native.Mathlib.Omega.{arith}
+use lib.ListN.{length}
 use Rattle.octets.proofs.Octets.{field-1}
 use Rattle.wire.specs.Reading.{follows, dataEnd}
 use Rattle.wire.proofs.Format.{header-after}
@@ -57,6 +58,7 @@ unfolding follows
 returns-4 c =
     let a = c .before .before .before .before .before .before .before .before .args in
     let len = c .before .before .before .before .u16-in .ensures in
+    let inside : dataEnd (a .f .now) (a .at) ≤ length (a .f .now) = omega (arith, len) in
     let end-fits : dataEnd (a .f .now) (a .at) ≤ 18446744073709551610 = omega (arith, len) in
     rw (
       c .before .before .header-in .ensures,
@@ -65,7 +67,7 @@ returns-4 c =
       header-after (dataEnd (a .f .now) (a .at)) end-fits,
       ← field-1 (a .f .now) (a .at + 23),
     )
-    (found-whole (a .f .now) (a .at) (omega (arith, len)))
+    (found-whole (a .f .now) (a .at) inside)
 
 pub message-at-spec : {M : Type 1} → statement M
 message-at-spec =
