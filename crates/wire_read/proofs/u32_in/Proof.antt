@@ -62,8 +62,17 @@ add-result-3 c = search needs
 
 returns : tie.Need-returns
 returns c =
-    let a = c .before .before .before .before .before .before .before .before .before .args in
-    omega (arith, field-4 (a .f .now) (a .at))
+    let third = c .before .before in
+    let second = third .before .before in
+    let first = second .before .before in
+    let a = first .before .before .before .args in
+    rw (
+      first .wide32 .ensures .0,
+      second .wide322 .ensures .0,
+      third .wide323 .ensures .0,
+      c .wide324 .ensures .0,
+      field-4 (a .f .now) (a .at),
+    )
 
 pub u32-in-spec : {M : Type 1} → statement M
 u32-in-spec =
