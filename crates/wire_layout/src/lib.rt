@@ -1,6 +1,6 @@
-// A lent frame as a whole: its refusal, 1 to 5 in their order, or how many messages it has and how many data bytes they carry;
-// and refusals 1 to 4 by themselves, which need no walk over the messages. Assumes nothing: any bytes get an answer. It promises
-// what wire/specs/Reading.antt and specs/Layout.antt say.
+// A lent frame as a whole: its refusal, 1 to 5 in their order, or how many messages it has and how many data bytes they
+// carry; and refusals 1 to 4 by themselves, which need no walk over the messages. Assumes nothing: any bytes get an
+// answer. It promises what wire/specs/Reading.antt and specs/Layout.antt say.
 use wire_read::Found;
 ghost use mathlib.Core.Path.{_≡_};
 ghost use mathlib.Core.Bool.{true};
@@ -105,8 +105,8 @@ pub fn heading_where(f: &[u8], ids: bool) -> u8
     0
 }
 
-// The first of refusals 1 to 4 of a frame that has come to own and should be from peer, and 0 where there is none: then only its
-// messages are left to read.
+// The first of refusals 1 to 4 of a frame that has come to own and should be from peer, and 0 where there is none: then
+// only its messages are left to read.
 pub fn heading_refusal(f: &[u8], own: u16, peer: u16) -> u8
     ensures { λ r. ⌜ r ≡ headingOf (addressed own peer (now (f .entry))) (now (f .entry)) ⌝ }
 {

@@ -27,13 +27,15 @@ message-put s s₁ s₂ at m head h e f room =
 
 -- a frame's first message: the frame header, then the message
 module _ (s s₁ s₂ : List ℕ) (to from num : ℕ) (m : Message) (head : List ℕ) (room : roomFor s (endOf 10 m) ≡ true) where
-  pub first-put : head ≡ frameHead to from num 0 0 1 → s₁ ≡ written s 0 head → s₂ ≡ sets s₁ 10 (messageHead m 0 ++ m .bytes)
+  pub first-put : head ≡ frameHead to from num 0 0 1 → s₁ ≡ written s 0 head
+      → s₂ ≡ sets s₁ 10 (messageHead m 0 ++ m .bytes)
       → s₂ ≡ firstMessage s to from num m
   unfolding firstMessage
   first-put h e f =
       let size : length (frameHead to from num 0 0 1) ≡ 10 = length-frameHead to from num 0 0 1 in
       let fits : endOf 10 m ≤ length s = room-slot s (endOf 10 m) room in
-      let first : s₁ ≡ sets s 0 (frameHead to from num 0 0 1) = wrote s s₁ (frameHead to from num 0 0 1) 0 (rw h at e) (omega arith) in
+      let first : s₁ ≡ sets s 0 (frameHead to from num 0 0 1) =
+      wrote s s₁ (frameHead to from num 0 0 1) 0 (rw h at e) (omega arith) in
       rw room (wrote-on s s₁ s₂ (frameHead to from num 0 0 1) (messageHead m 0 ++ m .bytes) 0 10 first f (omega arith))
 
 pub first-refused : (s : List ℕ) (to from num : ℕ) (m : Message) → roomFor s (endOf 10 m) ≡ false
@@ -47,7 +49,8 @@ front-alike x n zero h = refl
 front-alike x zero (suc k) h = absurd (omega arith)
 front-alike x (suc n) (suc k) h = ap (λ (r : List ℕ). x ∷ r) (front-alike x n k (omega arith))
 
-module _ (s s₁ s₂ s₃ : List ℕ) (used last : ℕ) (m : Message) (gap : List ℕ) (room : roomFor s (endOf (nextHeader used) m) ≡ true) where
+module _ (s s₁ s₂ s₃ : List ℕ) (used last : ℕ) (m : Message) (gap : List ℕ)
+    (room : roomFor s (endOf (nextHeader used) m) ≡ true) where
   pub next-put : gap ≡ gapAt used → s₁ ≡ set s (last + 23) 1 → s₂ ≡ written s₁ used gap
       → s₃ ≡ sets s₂ (nextHeader used) (messageHead m 0 ++ m .bytes) → s₃ ≡ nextMessage s used last m
   unfolding nextMessage
@@ -57,7 +60,8 @@ module _ (s s₁ s₂ s₃ : List ℕ) (used last : ℕ) (m : Message) (gap : Li
       let fits : endOf (nextHeader used) m ≤ length s = room-slot s (endOf (nextHeader used) m) room in
       let same : length s₁ ≡ length s = ap length e ∙ length-set s (last + 23) 1 in
       let gapped : s₂ ≡ sets s₁ used (gapAt used) = wrote s₁ s₂ (gapAt used) used (rw g at f) (omega arith) in
-      rw (room, ← e) (wrote-on s₁ s₂ s₃ (gapAt used) (messageHead m 0 ++ m .bytes) used (nextHeader used) gapped t (omega arith))
+      rw (room, ← e)
+      (wrote-on s₁ s₂ s₃ (gapAt used) (messageHead m 0 ++ m .bytes) used (nextHeader used) gapped t (omega arith))
 
 pub next-refused : (s : List ℕ) (used last : ℕ) (m : Message) → roomFor s (endOf (nextHeader used) m) ≡ false
     → s ≡ nextMessage s used last m

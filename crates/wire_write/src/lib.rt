@@ -1,5 +1,5 @@
-// Building a frame with messages inside a lent slot, one message a call. Assumes nothing: a message that has no room is not
-// written at all. It promises every byte of the slot, as wire/specs/Writing.antt says.
+// Building a frame with messages inside a lent slot, one message a call. Assumes nothing: a message that has no room is
+// not written at all. It promises every byte of the slot, as wire/specs/Writing.antt says.
 use seq::FrameNo;
 use wire::MessageHeader;
 ghost use mathlib.Core.Path.{_≡_};
@@ -16,7 +16,8 @@ const GAP_MOST: usize = 10;
 // A message at an offset where it lies in the slot: header and data.
 fn put_message(slot: &mut [u8], at: usize, h: MessageHeader, payload: &[u8])
     requires { ⌜ at + 24 + length (now payload) ≤ length (now slot) ⌝ }
-    ensures { λ _. ⌜ now (slot .exit) ≡ sets (now (slot .entry)) at (messageHead (carrying h (now (payload .entry))) 0 ++ now (payload .entry)) ⌝ }
+    ensures { λ _. ⌜ now (slot .exit)
+        ≡ sets (now (slot .entry)) at (messageHead (carrying h (now (payload .entry))) 0 ++ now (payload .entry)) ⌝ }
 {
     let head = wire_headers::message_head(h, payload);
     octets::write(slot, at, &head);
@@ -38,7 +39,8 @@ fn has_room(slot: &[u8], at: usize, payload: &[u8]) -> bool
     at + wire::MESSAGE_HEADER + n <= slot.len()
 }
 
-// The first message of a frame: the frame header and the message, from the slot's start on. Answers whether there was room.
+// The first message of a frame: the frame header and the message, from the slot's start on. Answers whether there was
+// room.
 pub fn write_first(
     slot: &mut [u8],
     to: u16,
@@ -48,7 +50,8 @@ pub fn write_first(
     payload: &[u8],
 ) -> bool
     ensures { λ r. ⌜ r ≡ roomFor (now (slot .entry)) (endOf 10 (carrying h (now (payload .entry)))) ⌝ }
-    ensures { λ _. ⌜ now (slot .exit) ≡ firstMessage (now (slot .entry)) to from (number .0) (carrying h (now (payload .entry))) ⌝ }
+    ensures { λ _. ⌜ now (slot .exit)
+        ≡ firstMessage (now (slot .entry)) to from (number .0) (carrying h (now (payload .entry))) ⌝ }
 {
     if !has_room(slot, wire::FRAME_HEADER, payload) {
         return false;
@@ -59,8 +62,8 @@ pub fn write_first(
     true
 }
 
-// One message more behind a frame of used bytes whose last message header stands at last: its trailing byte becomes 1, the
-// gap zeros, and the message follows. Answers whether there was room.
+// One message more behind a frame of used bytes whose last message header stands at last: its trailing byte becomes 1,
+// the gap zeros, and the message follows. Answers whether there was room.
 pub fn write_next(
     slot: &mut [u8],
     used: usize,
@@ -69,7 +72,8 @@ pub fn write_next(
     payload: &[u8],
 ) -> bool
     ensures { λ r. ⌜ r ≡ roomFor (now (slot .entry)) (endOf (nextHeader used) (carrying h (now (payload .entry)))) ⌝ }
-    ensures { λ _. ⌜ now (slot .exit) ≡ nextMessage (now (slot .entry)) used last (carrying h (now (payload .entry))) ⌝ }
+    ensures { λ _. ⌜ now (slot .exit)
+        ≡ nextMessage (now (slot .entry)) used last (carrying h (now (payload .entry))) ⌝ }
 {
     if wire::FRAME_MOST < used {
         return false;

@@ -28,12 +28,14 @@ flags-of-requires c κs = search needs
 returns-4 : tie.Need-returns-4
 returns-4 c =
     let a = c .before .before .before .before .before .before .args in
-    sym (heading-4 (a .ids) (a .f .now) (omega arith) (omega arith) (not-false _ (c .before .before .if3 .left)) (omega arith))
+    let mine = not-false _ (c .before .before .if3 .left) in
+    sym (heading-4 (a .ids) (a .f .now) (omega arith) (omega arith) mine (omega arith))
 
 returns-5 : tie.Need-returns-5
 returns-5 c =
     let a = c .before .before .before .before .before .before .args in
-    sym (heading-0 (a .ids) (a .f .now) (omega arith) (omega arith) (not-false _ (c .before .before .if3 .left)) (omega arith))
+    let mine = not-false _ (c .before .before .if3 .left) in
+    sym (heading-0 (a .ids) (a .f .now) (omega arith) (omega arith) mine (omega arith))
 
 pub heading-where-spec : {M : Type 1} → statement M
 heading-where-spec =

@@ -35,7 +35,8 @@ returns-2 c =
 walk-requires : tie.Need-walk-requires
 walk-requires c κs =
     let a = c .before .before .before .before .before .args in
-    heading-stands (a .ids) (a .f .now) _ (c .before .before .before .heading-where .ensures) (c .before .before .if1 .left) .most
+    let c2 = c .before .before in
+    heading-stands (a .ids) (a .f .now) _ (c2 .before .heading-where .ensures) (c2 .if1 .left) .most
 
 returns-3 : tie.Need-returns-3
 returns-3 c =

@@ -57,7 +57,8 @@ returns-2 c =
 loop-less : tie.Need-loop-less Inv-loop μ-loop
 loop-less c =
     let w = c .before .before .before .before .before .loop .inv .0 in
-    omega (arith, w, is-whole (sym (c .before .before .before .before .message-at .ensures) ∙ c .before .before .found .given .1))
+    let found = sym (c .before .before .before .before .message-at .ensures) ∙ c .before .before .found .given .1 in
+    omega (arith, w, is-whole found)
 
 loop-again : tie.Need-loop-again Inv-loop μ-loop
 loop-again c = (

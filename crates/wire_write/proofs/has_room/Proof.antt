@@ -15,7 +15,8 @@ add-if1 : tie.Need-add-if1
 add-if1 c = search needs
 
 returns : tie.Need-returns
-returns c = let a = c .before .args in sym (no-room (a .slot .now) (a .at + 24 + length (a .payload .now)) (omega arith))
+returns c =
+    let a = c .before .args in sym (no-room (a .slot .now) (a .at + 24 + length (a .payload .now)) (omega arith))
 
 sub-if2 : tie.Need-sub-if2
 sub-if2 c = search needs

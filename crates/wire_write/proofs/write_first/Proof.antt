@@ -31,7 +31,8 @@ unfolding carrying
 returns c =
     let a = c .before .before .before .before .before .args in
     let m = carrying (a .h) (a .payload .now) in
-    let room : roomFor (a .slot .now) (endOf 10 m) ≡ false = sym (c .before .has-room .ensures) ∙ not-true _ (c .if1 .taken) in
+    let room : roomFor (a .slot .now) (endOf 10 m) ≡ false =
+    sym (c .before .has-room .ensures) ∙ not-true _ (c .if1 .taken) in
     (sym room, first-refused (a .slot .now) (a .to) (a .from) (a .number .0) m room)
 
 frame-head-requires : tie.Need-frame-head-requires
@@ -67,7 +68,8 @@ returns-2 c =
     let c15 = c11 .before .before .before .before in
     let a = c15 .args in
     let m = carrying (a .h) (a .payload .now) in
-    let room : roomFor (a .slot .now) (endOf 10 m) ≡ true = sym (c11 .has-room .ensures) ∙ not-false _ (c10 .if1 .left) in (
+    let room : roomFor (a .slot .now) (endOf 10 m) ≡ true =
+    sym (c11 .has-room .ensures) ∙ not-false _ (c10 .if1 .left) in (
       sym room,
       first-put (a .slot .now) _ _ (a .to) (a .from) (a .number .0) m _ room
           (c9 .frame-head .ensures) (c6 .write .ensures .1) (c .before .before .put-message .ensures),

@@ -47,7 +47,8 @@ returns-2 c =
     let a = c7 .args in
     let m = carrying (a .h) (a .payload .now) in
     let room : roomFor (a .slot .now) (endOf (nextHeader (a .used)) m) ≡ false =
-    sym (rw (c .before .before .before .header-behind .ensures .0) at (c .before .has-room .ensures)) ∙ not-true _ (c .if2 .taken)
+    sym (rw (c .before .before .before .header-behind .ensures .0) at (c .before .has-room .ensures))
+    ∙ not-true _ (c .if2 .taken)
     in
     (sym room, next-refused (a .slot .now) (a .used) (a .last) m room)
 
