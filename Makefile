@@ -48,7 +48,8 @@ target/bin/calls: c/calls.c $(INSTALLED_LIB)
 	@mkdir -p $(@D)
 	$(C_BUILD) -o $@ $< $(C_LINK)
 
-# Both ends as processes that talk by UDP on 127.0.0.1, with a relay between them that loses, repeats and reorders: c/demo.
+# Both ends as processes that talk by UDP on 127.0.0.1, with a relay between them that loses, repeats and reorders:
+# c/demo.
 demo: $(DEMO_PROGRAMS)
 	@c/demo/run target/demo $(DEMO)
 
@@ -64,13 +65,14 @@ bench:
 	target/rust/bench-release/bench-ends
 	target/rust/bench-release/bench-replay target/bin/replay
 
-# What takes too long for the gate: a file of 1 GB through the replay, and the comparisons with the independent implementation ten
-# times as long, from SEED=number on. It needs 1 GB of disk below target/.
+# What takes too long for the gate: a file of 1 GB through the replay, and the comparisons with the independent
+# implementation ten times as long, from SEED=number on. It needs 1 GB of disk below target/.
 soak:
 	rt check replay
 	$(MAKE) library calls
 	cd rust && cargo test --offline --release -p logwhisker --test streams -- --include-ignored --nocapture
-	cd rust && LW_SEED=$(SEED) LW_INPUTS=12000000 LW_FRAMES=4000000 LW_LINES=20000000 LW_SCRIPTS=240 LW_LISTS=4000 LW_LONG_LISTS=10 LW_CALLS_OF_CARD=6000000 \
+	cd rust && LW_SEED=$(SEED) LW_INPUTS=12000000 LW_FRAMES=4000000 LW_LINES=20000000 LW_SCRIPTS=240 \
+		LW_LISTS=4000 LW_LONG_LISTS=10 LW_CALLS_OF_CARD=6000000 \
 		cargo test --offline --release -p logwhisker -p reference --tests
 	@echo 'soak: all the same from seed $(SEED) on'
 
@@ -79,7 +81,8 @@ install: $(LIBRARY)
 	install -d '$(DESTDIR)$(PREFIX)/include' '$(DESTDIR)$(PREFIX)/lib/pkgconfig'
 	install -m 644 include/logwhisker.h '$(DESTDIR)$(PREFIX)/include/logwhisker.h'
 	install -m 644 $(LIBRARY) '$(DESTDIR)$(PREFIX)/lib/liblogwhisker.a'
-	{ echo 'prefix=$(PREFIX)'; sed 's/@VERSION@/$(VERSION)/' include/logwhisker.pc.in; } > '$(DESTDIR)$(PREFIX)/lib/pkgconfig/logwhisker.pc'
+	{ echo 'prefix=$(PREFIX)'; sed 's/@VERSION@/$(VERSION)/' include/logwhisker.pc.in; } \
+		> '$(DESTDIR)$(PREFIX)/lib/pkgconfig/logwhisker.pc'
 	chmod 644 '$(DESTDIR)$(PREFIX)/lib/pkgconfig/logwhisker.pc'
 
 $(INSTALLED_LIB): $(LIBRARY) include/logwhisker.h include/logwhisker.pc.in

@@ -182,7 +182,8 @@ impl Tally {
 
     fn print(&self, seed: u64, runs: u64) {
         println!(
-            "seed {seed}: {} frames in {runs} runs or states, {} accepted ({:?} by memory, {} with several messages, {} with several completed), {} again, {} without messages, refused {:?}",
+            "seed {seed}: {} frames in {runs} runs or states, {} accepted ({:?} by memory, {} with several messages, \
+             {} with several completed), {} again, {} without messages, refused {:?}",
             self.frames,
             self.accepted,
             self.by_memory,
