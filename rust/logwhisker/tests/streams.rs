@@ -69,10 +69,7 @@ fn no_input() {
 fn input_that_cannot_be_read() {
     // The replay says which call failed, the C program its own name.
     for (name, who) in [("replay", "read"), ("calls", "calls")] {
-        for (redirections, what) in [
-            ("<&-", "Bad file descriptor"),
-            ("</", "Is a directory"),
-        ] {
+        for (redirections, what) in [("<&-", "Bad file descriptor"), ("</", "Is a directory")] {
             let output = run(name, redirections, b"");
             assert_eq!(text(&output.stderr), format!("{who}: {what}\n"), "{name}");
             assert_eq!(text(&output.stdout), "", "{name} {redirections}");
