@@ -1,6 +1,6 @@
-// What a C program is offered: reading a frame's layout and asking a refusal's class. Assumes of a caller that a slice's pointer
-// and length are right (include/logwhisker.h). It promises one number a call, over any bytes, as specs/Numbers.antt,
-// wire_layout/specs/Layout.antt and wire/specs/Reading.antt say.
+// What a C program is offered: reading a frame's layout and asking a refusal's class. Assumes of a caller that a
+// slice's pointer and length are right (include/logwhisker.h). It promises one number a call, over any bytes, as
+// specs/Numbers.antt, wire_layout/specs/Layout.antt and wire/specs/Reading.antt say.
 ghost use mathlib.Core.Path.{_≡_};
 ghost use Rattle.refusal.specs.Class.{classOf, classNumber};
 ghost use Rattle.wire.specs.Reading.{destination, source, number, ackStart, ackCount, flags};
