@@ -40,18 +40,22 @@ static inline void check_bytes(const char *what, unsigned long at, const void *g
     check(what, at, memcmp(got, want, size) == 0, 1);
 }
 
+/* A group without a check has shown nothing, so that it counts as a failure. */
 static inline void end_group(const char *name)
 {
+    if (passed == passed_before && failed == failed_before)
+        check(name, 0, 0, 1);
     printf("%s: %lu right, %lu wrong\n", name, passed - passed_before, failed - failed_before);
     passed_before = passed;
     failed_before = failed;
 }
 
-/* Prints the last line and gives the exit status: 1 if a check failed. */
+/* Prints the last line and gives the exit status: 1 if a check failed, if there was
+ * none, or if what was printed could not be written. */
 static inline int end_checks(void)
 {
     printf("%lu passed, %lu failed\n", passed, failed);
-    return failed == 0 ? 0 : 1;
+    return failed == 0 && passed > 0 && fflush(stdout) == 0 && !ferror(stdout) ? 0 : 1;
 }
 
 #endif

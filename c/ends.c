@@ -530,15 +530,36 @@ static void check_refused_add(struct sender *sender, uint32_t transaction, size_
     check_bytes("card and slots as they were", want, &before, sender, sizeof before);
 }
 
+/* Seals with slots of this size, which has to be refused and to change nothing. */
+static void check_refused_seal(struct sender *sender, size_t size, uint32_t want)
+{
+    const lw_card before = sender->card;
+    uint16_t number = 77;
+
+    check("seal", want, lw_card_seal(&sender->card, sender->slots, size, &number), want);
+    check("number as it was", want, number, 77);
+    check_bytes("card as it was", want, &before, &sender->card, sizeof before);
+}
+
+/* Opens a transaction, which has to be refused and to change nothing. */
+static void check_refused_transaction(struct sender *sender)
+{
+    const lw_card before = sender->card;
+    uint32_t transaction = 77;
+
+    check("transaction", 0, lw_card_open_transaction(&sender->card, 1, 0, 0, &transaction),
+          LW_REFUSED_TRANSACTION_WINDOW_FULL);
+    check("transaction as it was", 0, transaction, 77);
+    check_bytes("card as it was", 0, &before, &sender->card, sizeof before);
+}
+
 static void check_card_refusals(void)
 {
     static struct sender sender;
-    uint16_t number = 77;
-    uint32_t transaction = 77;
 
     open_sender(&sender);
     check_refused_add(&sender, 0, 0, LW_REFUSED_NO_MESSAGE_LEFT);
-    check("seal", 0, seal(&sender, &number), LW_REFUSED_NOTHING_TO_SEAL);
+    check_refused_seal(&sender, sizeof sender.slots, LW_REFUSED_NOTHING_TO_SEAL);
     open_transaction(&sender, 0);
     open_transaction(&sender, 2);
     check_refused_add(&sender, 0, 1, LW_REFUSED_DATA_FOR_BARE);
@@ -549,16 +570,11 @@ static void check_card_refusals(void)
     check_refused_add(&sender, UINT32_MAX, 0, LW_REFUSED_NO_MESSAGE_LEFT);
     for (unsigned i = 2; i < LW_TRANSACTION_WINDOW; i++)
         check("transaction", i, open_transaction(&sender, 1), i);
-    check("33rd transaction", 0, lw_card_open_transaction(&sender.card, 1, 0, 0, &transaction),
-          LW_REFUSED_TRANSACTION_WINDOW_FULL);
-    check("transaction as it was", 0, transaction, 77);
+    check_refused_transaction(&sender);
     check("wrong slots", 0,
           lw_card_add(&sender.card, sender.slots, sizeof sender.slots - 1, 1, 0, NULL, 0),
           LW_REFUSED_BAD_LIMIT_OR_SLOTS);
-    check("wrong slots", 0,
-          lw_card_seal(&sender.card, sender.slots, sizeof sender.slots - 1, &number),
-          LW_REFUSED_BAD_LIMIT_OR_SLOTS);
-    check("number as it was", 0, number, 77);
+    check_refused_seal(&sender, sizeof sender.slots - 1, LW_REFUSED_BAD_LIMIT_OR_SLOTS);
 
     lw_part part;
     check("wrong slots", 0,
@@ -630,6 +646,16 @@ static void check_limit(void)
     end_group("frame limit");
 }
 
+/* Reads a frame, which has to be refused and to change nothing. */
+static void check_refused_read(struct sender *sender, const uint8_t *frame, size_t length,
+                               uint32_t want)
+{
+    const lw_card before = sender->card;
+
+    check("read", want, lw_card_read(&sender->card, frame, length), want);
+    check_bytes("card as it was", want, &before, &sender->card, sizeof before);
+}
+
 static void check_reading(void)
 {
     static struct sender sender;
@@ -642,14 +668,14 @@ static void check_reading(void)
     check("add", 0, add(&sender, 0, NULL, 0), 0);
     check("seal", 0, seal(&sender, &number), 0);
     memcpy(frame, whole_acknowledgement, sizeof whole_acknowledgement);
-    check("short", 0, lw_card_read(&sender.card, frame, 9), LW_REFUSED_FRAME_TOO_SHORT);
-    check("long", 0, lw_card_read(&sender.card, frame, sizeof frame), LW_REFUSED_FRAME_TOO_LONG);
+    check_refused_read(&sender, frame, 9, LW_REFUSED_FRAME_TOO_SHORT);
+    check_refused_read(&sender, frame, sizeof frame, LW_REFUSED_FRAME_TOO_LONG);
     frame[9] = 1;
-    check("cut", 0, lw_card_read(&sender.card, frame, 10), LW_REFUSED_PAST_FRAME_END);
+    check_refused_read(&sender, frame, 10, LW_REFUSED_PAST_FRAME_END);
     frame[9] = 2;
-    check("flag", 0, lw_card_read(&sender.card, frame, 10), LW_REFUSED_RESERVED_FLAG);
+    check_refused_read(&sender, frame, 10, LW_REFUSED_RESERVED_FLAG);
     frame[0] = 9;
-    check("ID", 0, lw_card_read(&sender.card, frame, 10), LW_REFUSED_WRONG_ID);
+    check_refused_read(&sender, frame, 10, LW_REFUSED_WRONG_ID);
     check("still held", 0, show(&sender, 0, &part), 0);
 
     /* A range that comes round: 65,535 and 0. */
@@ -677,13 +703,13 @@ static void check_coming_round(void)
     open_sender(&sender);
     for (uint32_t i = 0; i < FRAMES; i++) {
         uint8_t data[4];
-        uint32_t transaction;
+        uint32_t transaction = UINT32_MAX;
         put32(data, i);
-        const uint32_t refusals =
-            lw_card_open_transaction(&sender.card, 1, 64, ~i, &transaction) |
-            add(&sender, transaction, data, sizeof data) | seal(&sender, &number) |
-            choose(&sender, NULL, 0, &part);
-        check("card's steps", i, refusals, 0);
+        check("open", i, lw_card_open_transaction(&sender.card, 1, 64, ~i, &transaction), 0);
+        check("transaction", i, transaction, i);
+        check("add", i, add(&sender, transaction, data, sizeof data), 0);
+        check("seal", i, seal(&sender, &number), 0);
+        check("choose", i, choose(&sender, NULL, 0, &part), 0);
         check("kind", i,
               lw_host_receive(&receiver.host, part.start, part.length, receiver.memory,
                               sizeof receiver.memory, &answer),
@@ -811,6 +837,9 @@ static void check_wild_cards(void)
 {
     static const size_t limits[] = {34, 66, 100, 9000};
     uint64_t seed = 2;
+    unsigned long added = 0;
+    unsigned long sealed = 0;
+    unsigned long handed_out = 0;
 
     for (size_t l = 0; l < sizeof limits / sizeof limits[0]; l++) {
         const size_t size = LW_SLOTS_SIZE(limits[l]);
@@ -826,9 +855,9 @@ static void check_wild_cards(void)
             /* The first word of a fresh card has IDs and limit. */
             card.words[0] = fresh.words[0] | (card.words[0] & (uint64_t)0xffff << 48);
             (void)lw_card_open_transaction(&card, 1, 0, 0, &transaction);
-            (void)lw_card_add(&card, slots, size, transaction, 0, NULL, 0);
-            (void)lw_card_add(&card, slots, size, transaction, 0, whole_case, sizeof whole_case);
-            (void)lw_card_seal(&card, slots, size, &number);
+            added += lw_card_add(&card, slots, size, transaction, 0, NULL, 0) == 0;
+            added += lw_card_add(&card, slots, size, transaction, 0, whole_case, 38) == 0;
+            sealed += lw_card_seal(&card, slots, size, &number) == 0;
             memcpy(frame, whole_acknowledgement, sizeof frame);
             put16(frame + 6, number);
             frame[8] = (uint8_t)i;
@@ -837,6 +866,7 @@ static void check_wild_cards(void)
                 const uint32_t refusal =
                     k == 0 ? lw_card_choose(&card, slots, size, NULL, 0, &part)
                            : lw_card_show(&card, slots, size, (uint16_t)(number + k), &part);
+                handed_out += refusal == LW_NOT_REFUSED;
                 if (refusal != LW_NOT_REFUSED)
                     check_part(i, part, NULL, 0);
                 else
@@ -845,6 +875,9 @@ static void check_wild_cards(void)
             }
         }
     }
+    check("many were added", added, added > 1000, 1);
+    check("many were sealed", sealed, sealed > 1000, 1);
+    check("many were handed out", handed_out, handed_out > 1000, 1);
     end_group("cards of any words");
 }
 
