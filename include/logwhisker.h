@@ -227,9 +227,9 @@ LW_SAME_SIZE(lw_description, LW_DESCRIPTION_WORDS);
 
 /* ---- The charging host ------------------------------------------------- */
 
-/* Opens a host of this ID for frames from this peer: nothing received, frame and
- * transaction numbers start at 0. Returns 0, or LW_REFUSED_ID_ZERO; then the host
- * is a fresh one with both IDs 0. */
+/* Opens a host of this ID for frames from this peer, whatever *host held before:
+ * nothing received, frame and transaction numbers start at 0. Returns 0, or
+ * LW_REFUSED_ID_ZERO; then the host is a fresh one with both IDs 0. */
 static inline uint32_t lw_host_open(lw_host *host, uint16_t own, uint16_t peer)
 {
     return lw_raw_host_open(host, own, peer);
@@ -237,8 +237,8 @@ static inline uint32_t lw_host_open(lw_host *host, uint16_t own, uint16_t peer)
 
 /* Receives a frame: judges all its messages and, if none is refused, writes their
  * data and completions into memory, whose first byte is address 0. Lend the same
- * memory each time. Returns the answer's kind; unless it is LW_ACCEPTED, host and
- * memory are as they were. */
+ * memory each time. Writes all of *answer, and returns its kind; unless that is
+ * LW_ACCEPTED, host and memory are as they were. */
 static inline uint32_t lw_host_receive(lw_host *host, const uint8_t *frame, size_t length,
                                        uint8_t *memory, size_t size, lw_answer *answer)
 {
@@ -250,7 +250,8 @@ static inline uint32_t lw_host_receive(lw_host *host, const uint8_t *frame, size
 /* Writes the acknowledgement frame that an answer calls for, to be sent to the
  * peer. Returns 1 if it is due (accepted, again) and 0 if not; then nothing is
  * written. The number is that of the host's own next message frame, which is not
- * used up: 0 for a host that sends no messages. */
+ * used up: 0 for a host that sends no messages. The host does not change, so that
+ * the same answer may be acknowledged more than once. */
 static inline uint32_t lw_host_acknowledge(const lw_host *host, const lw_answer *answer,
                                            uint16_t number,
                                            uint8_t acknowledgement[LW_ACKNOWLEDGEMENT])
@@ -258,7 +259,9 @@ static inline uint32_t lw_host_acknowledge(const lw_host *host, const lw_answer 
     return lw_raw_host_acknowledge(host, answer, number, acknowledgement);
 }
 
-/* Tells what the host's state is: IDs, both windows and the open transactions. */
+/* Tells what the host's state is: IDs, both windows and the open transactions.
+ * Writes all of *description, 0 where there is nothing to tell. Nothing is refused,
+ * and the host does not change. */
 static inline void lw_host_describe(const lw_host *host, lw_description *description)
 {
     lw_raw_host_describe(host, description);
@@ -266,11 +269,12 @@ static inline void lw_host_describe(const lw_host *host, lw_description *descrip
 
 /* ---- The card ---------------------------------------------------------- */
 
-/* Opens a card of this ID towards this peer, with frames of at most limit bytes,
- * 34 to 9,000, built and kept in a slot buffer of LW_SLOTS_SIZE(limit) bytes. Lend
- * the same slots, unchanged, to every later call. Returns 0, LW_REFUSED_ID_ZERO or
- * LW_REFUSED_BAD_LIMIT_OR_SLOTS; where refused, the card is a fresh one with both
- * IDs and the limit 0. Nothing is written to the slots. */
+/* Opens a card of this ID towards this peer, whatever *card held before, with
+ * frames of at most limit bytes, 34 to 9,000, built and kept in a slot buffer of
+ * LW_SLOTS_SIZE(limit) bytes. Lend the same slots, unchanged, to every later call.
+ * Returns 0 or the first that applies of LW_REFUSED_ID_ZERO and
+ * LW_REFUSED_BAD_LIMIT_OR_SLOTS; then the card is a fresh one with both IDs and the
+ * limit 0. Nothing is written to the slots, and no byte of them is looked at. */
 static inline uint32_t lw_card_open(lw_card *card, uint16_t own, uint16_t peer, size_t limit,
                                     const uint8_t *slots, size_t size)
 {
@@ -280,8 +284,8 @@ static inline uint32_t lw_card_open(lw_card *card, uint16_t own, uint16_t peer, 
 
 /* Opens a transaction of count data messages, or of one bare message if count is
  * 0, whose completion writes value (4 bytes, little endian) at address. Returns 0
- * and its number in *transaction, or LW_REFUSED_TRANSACTION_WINDOW_FULL, which
- * leaves *transaction as it was: read acknowledgements first. */
+ * and its number in *transaction; or LW_REFUSED_TRANSACTION_WINDOW_FULL, which
+ * leaves card and *transaction as they were: read acknowledgements first. */
 static inline uint32_t lw_card_open_transaction(lw_card *card, uint16_t count, uint32_t address,
                                                 uint32_t value, uint32_t *transaction)
 {
@@ -302,8 +306,9 @@ static inline uint32_t lw_card_add(lw_card *card, uint8_t *slots, size_t size,
 }
 
 /* Seals the frame being built: it is held until it is acknowledged. Returns 0 and
- * its number in *number, or LW_REFUSED_BAD_LIMIT_OR_SLOTS or
- * LW_REFUSED_NOTHING_TO_SEAL, which leave *number as it was. */
+ * its number in *number; or the first that applies of LW_REFUSED_BAD_LIMIT_OR_SLOTS
+ * and LW_REFUSED_NOTHING_TO_SEAL, which leave card and *number as they were.
+ * Nothing is written to the slots. */
 static inline uint32_t lw_card_seal(lw_card *card, const uint8_t *slots, size_t size,
                                     uint16_t *number)
 {
@@ -311,8 +316,10 @@ static inline uint32_t lw_card_seal(lw_card *card, const uint8_t *slots, size_t 
     return lw_raw_card_seal(card, size != 0 ? slots : &none, size, number);
 }
 
-/* Reads the acknowledgements of an arriving frame; its messages are not looked at
- * further than that they fit. Returns 0 or a refusal of 1 to 5. */
+/* Reads the acknowledgements of an arriving frame: what they cover is no longer
+ * held, and numbers of frames that are not sealed, or are released, are ignored. Its
+ * messages are not looked at further than that they fit. Returns 0 or the first
+ * that applies of the refusals 1 to 5; then the card is as it was. */
 static inline uint32_t lw_card_read(lw_card *card, const uint8_t *frame, size_t length)
 {
     const uint8_t none = 0;
@@ -321,8 +328,9 @@ static inline uint32_t lw_card_read(lw_card *card, const uint8_t *frame, size_t 
 
 /* Shows a held frame, to be sent (again). Returns 0 and the frame in *part, as a
  * part of the slots, which is good until the next call that changes card or slots;
- * or LW_REFUSED_BAD_LIMIT_OR_SLOTS or LW_REFUSED_NOT_HELD, and an empty part with
- * start NULL. */
+ * or the first that applies of LW_REFUSED_BAD_LIMIT_OR_SLOTS and
+ * LW_REFUSED_NOT_HELD, and an empty part with start NULL. Nothing but *part is
+ * written. */
 static inline uint32_t lw_card_show(const lw_card *card, const uint8_t *slots, size_t size,
                                     uint16_t number, lw_part *part)
 {
@@ -337,9 +345,11 @@ static inline uint32_t lw_card_show(const lw_card *card, const uint8_t *slots, s
 }
 
 /* Chooses what goes out next: the lent acknowledgement if it has exactly the
- * LW_ACKNOWLEDGEMENT bytes of one, otherwise the oldest held frame. Returns 0 and
- * it in *part, as a part of its own buffer; or LW_REFUSED_BAD_LIMIT_OR_SLOTS or
- * LW_REFUSED_NOT_HELD, and an empty part with start NULL. */
+ * LW_ACKNOWLEDGEMENT bytes of one, whatever they are, otherwise the oldest held
+ * frame. Returns 0 and it in *part, as a part of its own buffer; or the first that
+ * applies of LW_REFUSED_BAD_LIMIT_OR_SLOTS and LW_REFUSED_NOT_HELD, and an empty
+ * part with start NULL. Nothing but *part is written: what was chosen is chosen
+ * again until it is acknowledged. */
 static inline uint32_t lw_card_choose(const lw_card *card, const uint8_t *slots, size_t size,
                                       const uint8_t *acknowledgement, size_t length, lw_part *part)
 {
@@ -365,7 +375,8 @@ static inline uint32_t lw_card_choose(const lw_card *card, const uint8_t *slots,
 uint32_t lw_layout_refusal(const uint8_t *frame, size_t length);
 
 /* The fields of the frame header, each as it stands there, or 0 if the layout is
- * refused. As 0 is also a possible value, ask lw_layout_refusal first. */
+ * refused. As 0 is also a possible value, ask lw_layout_refusal first. None of the
+ * calls of this section writes anything. */
 
 /* ID of the endpoint the frame is for, 0 to 65,535; 0 if refused. */
 uint32_t lw_destination(const uint8_t *frame, size_t length);
