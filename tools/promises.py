@@ -5,10 +5,12 @@ write as it is at exit, with a definition, over any input. So for each `pub fn`:
   no `requires`;
   if it returns something, an `ensures` with an equation whose left side is the result;
   for each parameter of type `&mut`, an `ensures` with an equation whose left side is that parameter at exit.
-An equation with the same thing on its right side says nothing and does not count. A relation that a file of specs/
-defines counts where its definition equates: without a condition, or in both of two cases `a ≡ b → ..` and
-`a ≢ b → ..`; a relation that it names is read in its place. A result that is a struct is also known where every field
-of it is equated. What else is needed is an exemption with its reason (EXEMPT in tools/check-claims).
+An equation whose right side speaks of the result, or of anything at exit, does not count: two of them could lean on
+each other and say nothing. A relation that a file of specs/ defines counts where its definition equates: without a
+condition, or in both of two cases `a ≡ b → ..` and `a ≢ b → ..`; a relation that it names is read in its place. A
+result that is a struct is also known where every field of it is equated. What else is needed is an exemption with its
+reason (EXEMPT in tools/check-claims). A function or a parameter of a form that is not read here is a fault, so that
+none goes by unread.
 """
 import re
 
@@ -17,7 +19,11 @@ import re
 MEANINGS = ("pairOf", "cardOf")
 
 HEAD = re.compile(r'\bpub\s+(?:extern\s+"C"\s+)?fn\s+(\w+)\s*(?:<[^>]*>)?\s*\(')
+# What may be a public function, in whatever form.
+ANY_HEAD = re.compile(r"\bpub\b[^;{}()]*(?:\([^)]*\)[^;{}()]*)?\bfn\b")
 CLAUSE = re.compile(r"\s*(requires|ensures|decreases|measure)\b[^{]*\{")
+# A parameter that is lent for writing, and its name.
+LENT = re.compile(r"(?:(?:mut\s+)?(\w+)\s*:\s*)?&\s*(?:'\w+\s+)?mut\b")
 OPENING, CLOSING = "({[", ")}]"
 
 
@@ -30,8 +36,12 @@ class Function:
 
     def lent_for_writing(self):
         """The names of the parameters that it may write to."""
-        found = [re.match(r"(?:(\w+)\s*:\s*)?&\s*(?:'\w+\s+)?mut\b", p) for p in self.parameters]
+        found = [LENT.match(p) for p in self.parameters]
         return [m.group(1) or "self" for m in found if m]
+
+    def lent_unread(self):
+        """The parameters that lend for writing in another form, such as inside a tuple."""
+        return [p for p in self.parameters if not LENT.match(p) and re.search(r"&\s*(?:'\w+\s+)?mut\b", p)]
 
     def equations(self):
         """Each equation that it promises, as (name of the result there, left side, right side)."""
@@ -110,6 +120,13 @@ def public_functions(text):
             clauses.append((clause.group(1), text[clause.end() : at - 1]))
             clause = CLAUSE.match(text, at)
         yield Function(head.start(), head.group(1), parameters, result.group(1) if result else "", clauses)
+
+
+def unread_heads(text):
+    """Where a source has what may be a public function and is not read as one."""
+    text = without_comments(text)
+    read = [head.start() for head in HEAD.finditer(text)]
+    return [head.start() for head in ANY_HEAD.finditer(text) if head.start() not in read]
 
 
 def structs_of(files):
@@ -199,11 +216,16 @@ def speaks_of(side, subject):
     return re.search(rf"(?<![\w'.]){re.escape(subject)}(?![\w'])", side) is not None
 
 
+def is_given(side, result):
+    """Whether one side of an equation is known from what was handed in: it names neither the result nor an exit."""
+    return ".exit" not in side and (result == "_" or not speaks_of(side, result))
+
+
 def equates_result(function, relations, structs, lets_off):
     """Whether a promise of the function says what it returns: as a whole, or each field of it."""
     if related(function, lambda r: r, relations, lets_off):
         return True
-    said = [(r, left) for r, left, right in function.equations() if r != "_" and not speaks_of(right, r)]
+    said = [(r, left) for r, left, right in function.equations() if r != "_" and is_given(right, r)]
     fields = structs.get(function.result, [])
     each = [any(left == f"{r} .{field}" for r, left in said) for field in fields]
     return any(is_left(left, r, []) for r, left in said) or (fields != [] and all(each))
@@ -214,7 +236,7 @@ def equates_at_exit(function, parameter, relations, lets_off):
     exit = f"({parameter} .exit)"
     if related(function, lambda r: exit, relations, lets_off):
         return True
-    return any(is_left(left, exit, []) and exit not in right for _, left, right in function.equations())
+    return any(is_left(left, exit, []) and is_given(right, r) for r, left, right in function.equations())
 
 
 def faults(function, relations, structs, lets_off):
@@ -223,6 +245,8 @@ def faults(function, relations, structs, lets_off):
         yield "has a `requires`"
     if function.result not in ("", "()") and not equates_result(function, relations, structs, lets_off):
         yield "has no `ensures` that equates its result"
+    for parameter in function.lent_unread():
+        yield f"lends for writing in a form that is not read: {bare(parameter)}"
     for parameter in function.lent_for_writing():
         if not equates_at_exit(function, parameter, relations, lets_off):
             yield f"has no `ensures` that equates {parameter} at exit"
