@@ -128,8 +128,9 @@ impl Card {
         ))?;
         let [lent, offset, length] = part;
         Ok(match lent {
+            0 => Chosen::Frame(part_of(slots, offset, length)),
             1 => Chosen::Acknowledgement(part_of(acknowledgement, offset, length)),
-            _ => Chosen::Frame(part_of(slots, offset, length)),
+            _ => unreachable!("the library has no buffer {lent}"),
         })
     }
 

@@ -39,22 +39,23 @@ impl Answer {
     /// The answer that the library wrote. Each number fits, as a frame has 9,000 bytes at most.
     fn from_words(words: &[u64; ANSWER_WORDS]) -> Answer {
         let [kind, number, messages, bytes, completed, refusal, place] = *words;
-        match kind as u32 {
-            raw::ACCEPTED => Answer::Accepted {
+        match u32::try_from(kind) {
+            Ok(raw::ACCEPTED) => Answer::Accepted {
                 number: number as u16,
                 messages: messages as u32,
                 bytes: bytes as u32,
                 completed: completed as u32,
             },
-            raw::AGAIN => Answer::Again {
+            Ok(raw::AGAIN) => Answer::Again {
                 number: number as u16,
             },
-            raw::REFUSED => Answer::Refused {
+            Ok(raw::NO_MESSAGES) => Answer::NoMessages,
+            Ok(raw::REFUSED) => Answer::Refused {
                 refusal: Refusal::from_number(refusal as u32)
                     .expect("a refused frame has a refusal"),
                 place: place as u32,
             },
-            _ => Answer::NoMessages,
+            _ => unreachable!("the library has no answer of kind {kind}"),
         }
     }
 
@@ -203,7 +204,7 @@ impl Host {
         (due != 0).then_some(frame)
     }
 
-    /// What the end knows.
+    /// IDs, both windows and the open transactions. Nothing changes.
     pub fn describe(&self) -> Description {
         let mut words = [0; DESCRIPTION_WORDS];
         raw::host_describe(&self.words, &mut words);

@@ -11,7 +11,7 @@ use reference::ends::{Sound, Start};
 use reference::faults::{Fault, Faulty, FoundBy};
 use reference::rng::Rng;
 use reference::script::{Wild, of_list};
-use reference::settings::number_from_env;
+use reference::settings::{count_from_env, number_from_env};
 use reference::simulator::{Profile, come_round, simulate};
 use std::io::{Read, Write};
 use std::thread;
@@ -26,7 +26,7 @@ const LONGEST: usize = 200_000;
 
 fn seeds() -> std::ops::Range<u64> {
     let first = number_from_env("LW_SEED", 1);
-    first..first + number_from_env("LW_SCRIPTS", 24)
+    first..first + count_from_env("LW_SCRIPTS", 24)
 }
 
 /// What the program writes for this input, handed to it in pieces of this size.

@@ -15,7 +15,7 @@ use reference::card::{Card, SLOTS};
 use reference::card_calls::{Aim, Call, Outcome};
 use reference::cases::{WHOLE_CASE, WHOLE_CASE_ACKNOWLEDGEMENT};
 use reference::rng::Rng;
-use reference::settings::number_from_env;
+use reference::settings::{count_from_env, number_from_env};
 use reference::wire;
 
 const DEFAULT_SEED: u64 = 1;
@@ -109,7 +109,7 @@ const REFUSALS: [(usize, usize, u64); 17] = [
 ];
 
 fn calls() -> u64 {
-    number_from_env("LW_CALLS_OF_CARD", DEFAULT_CALLS)
+    count_from_env("LW_CALLS_OF_CARD", DEFAULT_CALLS)
 }
 
 fn seed() -> u64 {
@@ -362,7 +362,7 @@ fn openings() {
         1 << 32,
         usize::MAX,
     ];
-    let mut opened = 0;
+    let (mut opened, mut refused) = (0, [0; 2]);
     for limit in limits {
         let fitting = limit
             .checked_mul(SLOTS)
@@ -390,6 +390,11 @@ fn openings() {
                     short: false,
                 };
                 let name = || format!("{own} {peer} {limit} {bytes}");
+                match Proved::open(own, peer, limit, &slots) {
+                    Err(Refusal::ID_ZERO) => refused[0] += 1,
+                    Err(Refusal::BAD_LIMIT_OR_SLOTS) => refused[1] += 1,
+                    other => assert!(other.is_ok(), "{other:?}: {}", name()),
+                }
                 both.call(&open, &name);
                 opened += u64::from(both.call(&add, &name) == Outcome::Done);
                 both.call(&Call::Seal { short: false }, &name);
@@ -398,6 +403,7 @@ fn openings() {
         }
     }
     assert!(opened >= 4 * 2, "{opened}");
+    assert!(refused[0] > 50 && refused[1] > 50, "13, 26: {refused:?}");
 }
 
 /// The whole case from the card's side, through the safe type.

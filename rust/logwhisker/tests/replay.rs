@@ -10,7 +10,7 @@ use reference::cases::WHOLE_CASE;
 use reference::host::{Answer, Host};
 use reference::refusal;
 use reference::replay::{self, MOST_LINES, Replay};
-use reference::settings::number_from_env;
+use reference::settings::{count_from_env, number_from_env};
 use reference::traffic::{Kind, Traffic};
 use reference::wire::{Message, write_frame};
 use std::fs::{self, File};
@@ -207,7 +207,7 @@ fn seed_of_run(seed: u64, run: u64) -> u64 {
 #[test]
 fn program_agrees_with_the_reference_on_generated_lines() {
     let seed = number_from_env("LW_SEED", DEFAULT_SEED);
-    let lines = number_from_env("LW_LINES", DEFAULT_LINES);
+    let lines = count_from_env("LW_LINES", DEFAULT_LINES);
     let mut tally = Tally::default();
     for run in 0..lines.div_ceil(RUN) {
         compare_run(seed, run, RUN.min(lines - run * RUN), &mut tally);

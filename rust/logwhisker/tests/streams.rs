@@ -201,8 +201,8 @@ unsafe extern "C" {
 fn failing_after(sent: &[u8]) -> File {
     const READ_WRITE: c_int = 2;
     const NO_CONTROLLING: c_int = 0o400;
-    // SAFETY: the calls take a number or the descriptor that the first one gave; the name is copied before the next
-    // call.
+    // SAFETY: the calls take a number or the descriptor that the first one gave; the name is
+    // copied before the next call.
     let (master, name) = unsafe {
         let fd = posix_openpt(READ_WRITE | NO_CONTROLLING);
         assert!(

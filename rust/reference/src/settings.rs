@@ -12,3 +12,11 @@ pub fn number_from_env(name: &str, default: u64) -> u64 {
         Err(error) => panic!("{name}: {error}"),
     }
 }
+
+/// As [`number_from_env`], for a number of things to be compared: 0 would compare nothing,
+/// and a test that does so has to fail.
+pub fn count_from_env(name: &str, default: u64) -> u64 {
+    let count = number_from_env(name, default);
+    assert!(count > 0, "{name} is 0: nothing would be compared");
+    count
+}

@@ -9,7 +9,7 @@ use reference::host::Answer;
 use reference::list::Call;
 use reference::premises::{self, Forbidden};
 use reference::rng::Rng;
-use reference::settings::number_from_env;
+use reference::settings::{count_from_env, number_from_env};
 use reference::simulator::{Profile, Tally, check_list, come_round, simulate};
 
 /// Fails unless each was met; lists without these are lists about next to nothing.
@@ -41,7 +41,7 @@ fn met_by_all(tally: &Tally) -> Vec<(&'static str, u64)> {
 #[test]
 fn short_lists_keep_the_demand_after_every_call() {
     let seed = number_from_env("LW_SEED", 1);
-    let lists = number_from_env("LW_LISTS", 400);
+    let lists = count_from_env("LW_LISTS", 400);
     let mut rng = Rng::new(seed);
     let mut tally = Tally::default();
     for list in 0..lists {
@@ -67,7 +67,7 @@ fn short_lists_keep_the_demand_after_every_call() {
 #[test]
 fn long_lists_keep_the_demand_when_numbers_come_round() {
     let seed = number_from_env("LW_SEED", 1);
-    for list in 0..number_from_env("LW_LONG_LISTS", 1) {
+    for list in 0..count_from_env("LW_LONG_LISTS", 1) {
         let profile = Profile::long(66_000);
         let run = simulate(&Sound, seed + list, profile, 650_000, true, Care::LongList);
         assert_eq!(run.breach, None, "list {list} of seed {seed}");

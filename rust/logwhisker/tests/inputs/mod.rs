@@ -6,7 +6,7 @@
 //! checks the independent reader too, and not only that two readers agree.
 
 use reference::rng::Rng;
-use reference::settings::number_from_env;
+use reference::settings::{count_from_env, number_from_env};
 use reference::wire::{
     FRAME_HEADER, HAS_MESSAGES, LONGEST_FRAME, MESSAGE_HEADER, Message, write_frame,
 };
@@ -41,7 +41,7 @@ impl Settings {
     pub fn from_env() -> Settings {
         Settings {
             seed: number_from_env("LW_SEED", DEFAULT_SEED),
-            inputs: number_from_env("LW_INPUTS", DEFAULT_INPUTS),
+            inputs: count_from_env("LW_INPUTS", DEFAULT_INPUTS),
         }
     }
 }
