@@ -309,13 +309,16 @@ int main(int argc, char **argv)
     read_options(argc, argv, options, sizeof options / sizeof options[0]);
     sender.relay = local_address((uint16_t)relay);
     sender.socket = open_socket(&port);
-    if (lw_card_open(&sender.card, CARD_ID, HOST_ID, FRAME_LIMIT, sender.slots,
-                     sizeof sender.slots) != LW_NOT_REFUSED)
+    const uint32_t refusal = lw_card_open(&sender.card, CARD_ID, HOST_ID, FRAME_LIMIT, sender.slots,
+                                          sizeof sender.slots);
+    if (refusal != LW_NOT_REFUSED) {
+        fprintf(stderr, "card: not opened: %s\n", lw_refusal_name(refusal));
         return EXIT_FAILURE;
+    }
 
     const char *const trouble = run(&sender);
     if (trouble != NULL)
         fprintf(stderr, "card: given up: %s\n", trouble);
     report(&sender);
-    return trouble == NULL && fflush(stdout) == 0 ? EXIT_SUCCESS : EXIT_FAILURE;
+    return trouble == NULL && fflush(stdout) == 0 && !ferror(stdout) ? EXIT_SUCCESS : EXIT_FAILURE;
 }

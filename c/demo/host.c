@@ -3,7 +3,8 @@
  * each frame to the library and sends back the acknowledgement that the answer
  * calls for. Prints `port NUMBER` at the start and, when it is told to end by
  * SIGTERM, its bill and how many frames got which answer. Port and size of its
- * memory can be set, so that its datagrams can be captured and replayed.
+ * memory can be set, so that its datagrams can be captured and replayed; or it
+ * prints each of them itself, as `datagram DIGITS`.
  */
 #define _POSIX_C_SOURCE 200809L
 
@@ -21,6 +22,7 @@ struct receiver {
     lw_host host;
     uint8_t memory[MOST_MEMORY];
     uint32_t memory_size; /* as much of it as is lent */
+    uint32_t is_showing;  /* 1: prints every datagram */
     int socket;
     struct bill bill;
     uint64_t accepted;
@@ -64,6 +66,14 @@ static void receive_frame(struct receiver *receiver, const uint8_t *frame, size_
         send_frame(receiver->socket, from, acknowledgement, sizeof acknowledgement);
 }
 
+static void show_datagram(const uint8_t *datagram, size_t length)
+{
+    printf("datagram ");
+    for (size_t i = 0; i < length; i++)
+        printf("%02x", datagram[i]);
+    putchar('\n');
+}
+
 /* Takes all datagrams that have arrived; false if there was none. */
 static bool receive_all(struct receiver *receiver)
 {
@@ -78,6 +88,8 @@ static bool receive_all(struct receiver *receiver)
         if (length < 0)
             return any;
         any = true;
+        if (receiver->is_showing)
+            show_datagram(datagram, (size_t)length);
         if (length >= PREFIX)
             receive_frame(receiver, datagram + PREFIX, (size_t)length - PREFIX, &from);
     }
@@ -96,12 +108,16 @@ int main(int argc, char **argv)
     uint32_t wanted = 0;
     const struct option options[] = {
         {"port", &wanted, 0, UINT16_MAX},
+        {"datagrams", &receiver.is_showing, 0, 1},
         {"memory", &receiver.memory_size, LEAST_MEMORY, MOST_MEMORY}};
 
     read_options(argc, argv, options, sizeof options / sizeof options[0]);
     end_on_signals();
-    if (lw_host_open(&receiver.host, HOST_ID, CARD_ID) != LW_NOT_REFUSED)
+    const uint32_t refusal = lw_host_open(&receiver.host, HOST_ID, CARD_ID);
+    if (refusal != LW_NOT_REFUSED) {
+        fprintf(stderr, "host: not opened: %s\n", lw_refusal_name(refusal));
         return EXIT_FAILURE;
+    }
     uint16_t port = (uint16_t)wanted;
     receiver.socket = open_socket(&port);
     printf("port %u\n", port);
@@ -114,5 +130,5 @@ int main(int argc, char **argv)
             heard = now();
     }
     report(&receiver);
-    return ended && fflush(stdout) == 0 ? EXIT_SUCCESS : EXIT_FAILURE;
+    return ended && fflush(stdout) == 0 && !ferror(stdout) ? EXIT_SUCCESS : EXIT_FAILURE;
 }

@@ -200,5 +200,5 @@ int main(int argc, char **argv)
     run(&relay);
     report(&relay.to_host);
     report(&relay.to_card);
-    return ended && fflush(stdout) == 0 ? EXIT_SUCCESS : EXIT_FAILURE;
+    return ended && fflush(stdout) == 0 && !ferror(stdout) ? EXIT_SUCCESS : EXIT_FAILURE;
 }
