@@ -1,6 +1,6 @@
 // The card's end of a pair as a value: its sealed frames, its transactions, and what its steps answer. Definitions only:
 // specs/Card.antt says what opening and the six steps make of a card, and specs/Reachable.antt what holds of every card that they
-// hand back. The crates card_words, card_build, card_acks and card_send do the steps on a card kept in lent words.
+// hand back. The crates card_* do the steps on a card kept in lent words.
 use seq::FrameNo;
 use seq::TransNo;
 ghost use mathlib.Core.Path.{_≡_};

@@ -1,3 +1,2 @@
 pub mod InPlace
-pub mod Limits
 pub mod Writing

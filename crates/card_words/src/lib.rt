@@ -1,5 +1,5 @@
 // A card in 85 words that a caller lends: opening it there, and reading and storing its parts, from which the steps of the crates
-// card_build, card_acks and card_send are made. Assumes nothing of the words: any are a card, which specs/Words.antt decodes. It
+// above this one are made. Assumes nothing of the words: any are a card, which specs/Words.antt decodes. It
 // promises by that decoding what the words hold then, and that a buffer of another length is left as it was.
 use card::Sending;
 use seq::FrameNo;

@@ -1,8 +1,8 @@
 // The library's face: what a caller in Rattle uses. Both ends in place over words that the caller lends, and the host by value; a
 // frame's layout; a refusal's class. Assumes nothing: any words are a state, and any bytes get an answer. It promises what
 // specs/Face.antt says, which is what the theorem of the crate delivery is about.
-pub use card_build::OpenedTransaction;
-pub use card_build::SealedFrame;
+pub use card_number::OpenedTransaction;
+pub use card_number::SealedFrame;
 pub use card_send::Choice;
 pub use card_send::Part;
 pub use host::Acknowledgement;
@@ -123,7 +123,7 @@ pub fn open_transaction(
     ensures { λ r. ⌜ r .trans ≡ openTransaction (cardOf (now (words .entry))) count address value .trans ⌝ }
     ensures { λ _. ⌜ cardOf (now (words .exit)) ≡ transactionOpened (now (words .entry)) count address value .card ⌝ }
 {
-    card_build::open_transaction(words, count, address, value)
+    card_number::open_transaction(words, count, address, value)
 }
 
 // Adds one message of a transaction, with data for an address, to the frame being built.
@@ -149,7 +149,7 @@ pub fn seal_frame(words: &mut [u64; 85], slots: &[u8]) -> SealedFrame
     ensures { λ r. ⌜ r .number ≡ sealFrame (cardOf (now (words .entry))) (now (slots .entry)) .number ⌝ }
     ensures { λ _. ⌜ cardOf (now (words .exit)) ≡ frameSealed (now (words .entry)) (now (slots .entry)) .card ⌝ }
 {
-    card_build::seal_frame(words, slots)
+    card_number::seal_frame(words, slots)
 }
 
 // Reads the acknowledgements of an arriving frame.

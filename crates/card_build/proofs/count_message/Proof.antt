@@ -8,7 +8,7 @@ use Rattle.card_build.proofs.count_message.Statement.{statement}
 use Rattle.card_build.proofs.count_message.Tie as tie
 use Rattle.card_build.proofs.count_message.Reads as reads
 use Rattle.card_build.proofs.count_message.Lts as lts
-use Rattle.card_build.proofs.header_offset.Reads as header-offset-reads
+use Rattle.card_admit.proofs.header_offset.Reads as header-offset-reads
 use Rattle.card_words.proofs.head_of.Reads as head-of-reads
 use Rattle.card_words.proofs.put_head.Reads as put-head-reads
 use Rattle.card_words.proofs.put_sending.Reads as put-sending-reads

@@ -3,13 +3,13 @@
 use mathlib.Core.Path.{refl, sym, ap}
 use borrow.Author.Tests.{eq-eqb, ne-eqb}
 use Rattle.card.specs.declared.TransOpened.{TransOpened}
-use Rattle.card_build.specs.Building.{openedIn}
-use Rattle.card_build.proofs.InPlace.{window-full, opened-now}
+use Rattle.card_number.specs.Numbering.{openedIn}
+use Rattle.card_number.proofs.InPlace.{window-full, opened-now}
 use borrow.Author.Needs.{needs}
-use Rattle.card_build.proofs.open_transaction.Statement.{statement}
-use Rattle.card_build.proofs.open_transaction.Tie as tie
-use Rattle.card_build.proofs.open_transaction.Reads as reads
-use Rattle.card_build.proofs.open_transaction.Lts as lts
+use Rattle.card_number.proofs.open_transaction.Statement.{statement}
+use Rattle.card_number.proofs.open_transaction.Tie as tie
+use Rattle.card_number.proofs.open_transaction.Reads as reads
+use Rattle.card_number.proofs.open_transaction.Lts as lts
 use Rattle.card_words.proofs.head_of.Reads as head-of-reads
 use Rattle.card_words.proofs.put_head.Reads as put-head-reads
 use Rattle.card_words.proofs.put_sending.Reads as put-sending-reads

@@ -3,14 +3,14 @@
 use mathlib.Core.Path.{refl, sym, ap}
 use borrow.Author.Tests.{eq-eqb, ne-eqb}
 use Rattle.card.specs.declared.Sealed.{Sealed}
-use Rattle.card_build.specs.Building.{sealedIn}
-use Rattle.card_build.proofs.InPlace.{sealing-refused, sealed-now}
+use Rattle.card_number.specs.Numbering.{sealedIn}
+use Rattle.card_number.proofs.InPlace.{sealing-refused, sealed-now}
 use borrow.Author.Needs.{needs}
-use Rattle.card_build.proofs.seal_frame.Statement.{statement}
-use Rattle.card_build.proofs.seal_frame.Tie as tie
-use Rattle.card_build.proofs.seal_frame.Reads as reads
-use Rattle.card_build.proofs.seal_frame.Lts as lts
-use Rattle.card_build.proofs.seal_refusal.Reads as seal-refusal-reads
+use Rattle.card_number.proofs.seal_frame.Statement.{statement}
+use Rattle.card_number.proofs.seal_frame.Tie as tie
+use Rattle.card_number.proofs.seal_frame.Reads as reads
+use Rattle.card_number.proofs.seal_frame.Lts as lts
+use Rattle.card_number.proofs.seal_refusal.Reads as seal-refusal-reads
 use Rattle.card_words.proofs.head_of.Reads as head-of-reads
 use Rattle.card_words.proofs.put_head.Reads as put-head-reads
 use Rattle.card_words.proofs.put_size.Reads as put-size-reads

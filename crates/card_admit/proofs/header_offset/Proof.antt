@@ -4,10 +4,10 @@ use native.Mathlib.Omega.{arith}
 use mathlib.Core.Path.{_∙_}
 use Rattle.wire.proofs.Format.{header-after}
 use borrow.Author.Needs.{needs}
-use Rattle.card_build.proofs.header_offset.Statement.{statement}
-use Rattle.card_build.proofs.header_offset.Tie as tie
-use Rattle.card_build.proofs.header_offset.Reads as reads
-use Rattle.card_build.proofs.header_offset.Lts as lts
+use Rattle.card_admit.proofs.header_offset.Statement.{statement}
+use Rattle.card_admit.proofs.header_offset.Tie as tie
+use Rattle.card_admit.proofs.header_offset.Reads as reads
+use Rattle.card_admit.proofs.header_offset.Lts as lts
 use Rattle.wire.proofs.next_header.Reads as next-header-reads
 
 next-header-requires : tie.Need-next-header-requires

@@ -5,16 +5,16 @@ use borrow.Author.Tests.{not-true, not-false}
 use lib.ListN.{length}
 use Rattle.card.specs.Card.{addRefusal}
 use Rattle.card_words.proofs.Heads.{unfit, fit}
-use Rattle.card_build.proofs.InPlace.{bare-is, slots-taken, slot-free, ends-at}
+use Rattle.card_admit.proofs.InPlace.{bare-is, slots-taken, slot-free, ends-at}
 use borrow.Author.Needs.{needs}
-use Rattle.card_build.proofs.add_refusal.Statement.{statement}
-use Rattle.card_build.proofs.add_refusal.Tie as tie
-use Rattle.card_build.proofs.add_refusal.Reads as reads
-use Rattle.card_build.proofs.add_refusal.Lts as lts
+use Rattle.card_admit.proofs.add_refusal.Statement.{statement}
+use Rattle.card_admit.proofs.add_refusal.Tie as tie
+use Rattle.card_admit.proofs.add_refusal.Reads as reads
+use Rattle.card_admit.proofs.add_refusal.Lts as lts
 use Rattle.card.proofs.is_fitting.Reads as is-fitting-reads
-use Rattle.card_build.proofs.is_data_for_bare.Reads as is-data-for-bare-reads
-use Rattle.card_build.proofs.is_past_limit.Reads as is-past-limit-reads
-use Rattle.card_build.proofs.is_taking.Reads as is-taking-reads
+use Rattle.card_admit.proofs.is_data_for_bare.Reads as is-data-for-bare-reads
+use Rattle.card_admit.proofs.is_past_limit.Reads as is-past-limit-reads
+use Rattle.card_admit.proofs.is_taking.Reads as is-taking-reads
 use Rattle.card_words.proofs.head_of.Reads as head-of-reads
 use Rattle.card_words.proofs.sending_at.Reads as sending-at-reads
 use Rattle.seq.proofs.FrameNo.distance.Reads as distance-reads

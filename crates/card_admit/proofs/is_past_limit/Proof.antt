@@ -8,13 +8,13 @@ use lib.Dec.{ltb}
 use lib.ListN.{length}
 use Rattle.wire.specs.Format.{nextHeader}
 use Rattle.wire.proofs.Format.{next-gap}
-use Rattle.card_build.proofs.Limits.{past-limit}
+use Rattle.card_admit.proofs.Limits.{past-limit}
 use borrow.Author.Needs.{needs}
-use Rattle.card_build.proofs.is_past_limit.Statement.{statement}
-use Rattle.card_build.proofs.is_past_limit.Tie as tie
-use Rattle.card_build.proofs.is_past_limit.Reads as reads
-use Rattle.card_build.proofs.is_past_limit.Lts as lts
-use Rattle.card_build.proofs.header_offset.Reads as header-offset-reads
+use Rattle.card_admit.proofs.is_past_limit.Statement.{statement}
+use Rattle.card_admit.proofs.is_past_limit.Tie as tie
+use Rattle.card_admit.proofs.is_past_limit.Reads as reads
+use Rattle.card_admit.proofs.is_past_limit.Lts as lts
+use Rattle.card_admit.proofs.header_offset.Reads as header-offset-reads
 
 header-offset-requires : tie.Need-header-offset-requires
 header-offset-requires c κs = search needs

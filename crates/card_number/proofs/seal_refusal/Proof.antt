@@ -2,12 +2,12 @@
 -- Assumes nothing.
 use Rattle.card.specs.Card.{sealRefusal}
 use Rattle.card_words.proofs.Heads.{unfit, fit}
-use Rattle.card_build.proofs.InPlace.{nothing-built, something-built}
+use Rattle.card_number.proofs.InPlace.{nothing-built, something-built}
 use borrow.Author.Needs.{needs}
-use Rattle.card_build.proofs.seal_refusal.Statement.{statement}
-use Rattle.card_build.proofs.seal_refusal.Tie as tie
-use Rattle.card_build.proofs.seal_refusal.Reads as reads
-use Rattle.card_build.proofs.seal_refusal.Lts as lts
+use Rattle.card_number.proofs.seal_refusal.Statement.{statement}
+use Rattle.card_number.proofs.seal_refusal.Tie as tie
+use Rattle.card_number.proofs.seal_refusal.Reads as reads
+use Rattle.card_number.proofs.seal_refusal.Lts as lts
 use Rattle.card.proofs.is_fitting.Reads as is-fitting-reads
 use Rattle.card_words.proofs.head_of.Reads as head-of-reads
 

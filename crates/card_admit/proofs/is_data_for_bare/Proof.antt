@@ -1,10 +1,10 @@
 -- `is_data_for_bare`: count 0, and data.
 -- Assumes nothing.
 use borrow.Author.Tests.{eq-eqb, ne-eqb}
-use Rattle.card_build.proofs.is_data_for_bare.Statement.{statement}
-use Rattle.card_build.proofs.is_data_for_bare.Tie as tie
-use Rattle.card_build.proofs.is_data_for_bare.Reads as reads
-use Rattle.card_build.proofs.is_data_for_bare.Lts as lts
+use Rattle.card_admit.proofs.is_data_for_bare.Statement.{statement}
+use Rattle.card_admit.proofs.is_data_for_bare.Tie as tie
+use Rattle.card_admit.proofs.is_data_for_bare.Reads as reads
+use Rattle.card_admit.proofs.is_data_for_bare.Lts as lts
 
 returns : tie.Need-returns
 returns c = rw (ne-eqb _ 0 (c .if1 .taken))

@@ -1,11 +1,11 @@
 -- `is_taking`: opened, and not all of its messages are added.
 -- Assumes nothing.
-use Rattle.card_build.proofs.InPlace.{takes-none, takes-some}
+use Rattle.card_admit.proofs.InPlace.{takes-none, takes-some}
 use borrow.Author.Needs.{needs}
-use Rattle.card_build.proofs.is_taking.Statement.{statement}
-use Rattle.card_build.proofs.is_taking.Tie as tie
-use Rattle.card_build.proofs.is_taking.Reads as reads
-use Rattle.card_build.proofs.is_taking.Lts as lts
+use Rattle.card_admit.proofs.is_taking.Statement.{statement}
+use Rattle.card_admit.proofs.is_taking.Tie as tie
+use Rattle.card_admit.proofs.is_taking.Reads as reads
+use Rattle.card_admit.proofs.is_taking.Lts as lts
 use Rattle.card.proofs.messages_of.Reads as messages-of-reads
 use Rattle.card_words.proofs.head_of.Reads as head-of-reads
 use Rattle.card_words.proofs.sending_at.Reads as sending-at-reads
