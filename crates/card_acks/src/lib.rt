@@ -123,7 +123,7 @@ fn acknowledge(words: &mut [u64], start: FrameNo, count: u8)
     next.base = base;
     next.lowest = lowest.advance(gone);
     next.finished = word32::shifted(finished, gone);
-    card_words::put_head(words, next);
+    card_store::put_head(words, next);
 }
 
 // Reads the acknowledgements of an arriving frame, and answers the refusal, 0 for none.

@@ -88,7 +88,7 @@ fn count_message(words: &mut [u64], t: TransNo, payload: &[u8])
     let h = card_words::head_of(words);
     let frame = h.next;
     let e = card_words::sending_at(words, t);
-    card_words::put_sending(
+    card_store::put_sending(
         words,
         t,
         Sending {
@@ -103,7 +103,7 @@ fn count_message(words: &mut [u64], t: TransNo, payload: &[u8])
     let mut next = h;
     next.used = (start + 24 + payload.len()) as u16;
     next.last = start as u16;
-    card_words::put_head(words, next);
+    card_store::put_head(words, next);
 }
 
 // ---- adding it

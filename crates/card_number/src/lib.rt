@@ -49,7 +49,7 @@ pub fn open_transaction(
             trans: TransNo(0),
         };
     }
-    card_words::put_sending(
+    card_store::put_sending(
         words,
         trans,
         Sending {
@@ -62,7 +62,7 @@ pub fn open_transaction(
     );
     let mut next = h;
     next.upcoming = trans.advance(1);
-    card_words::put_head(words, next);
+    card_store::put_head(words, next);
     OpenedTransaction { refusal: 0, trans }
 }
 
@@ -103,11 +103,11 @@ pub fn seal_frame(words: &mut [u64], slots: &[u8]) -> SealedFrame
         };
     }
     let number = h.next;
-    card_words::put_size(words, number, h.used);
+    card_store::put_size(words, number, h.used);
     let mut next = h;
     next.used = 0;
     next.last = 0;
     next.next = number.advance(1);
-    card_words::put_head(words, next);
+    card_store::put_head(words, next);
     SealedFrame { refusal: 0, number }
 }

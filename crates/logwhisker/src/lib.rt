@@ -108,7 +108,7 @@ pub fn open_card(words: &mut [u64; 85], own: u16, peer: u16, limit: usize, slots
     ensures { λ r. ⌜ r ≡ cardOpened own peer limit (now (slots .entry)) .refusal ⌝ }
     ensures { λ _. ⌜ cardOf (now (words .exit)) ≡ cardOpened own peer limit (now (slots .entry)) .card ⌝ }
 {
-    card_words::open_card(words, own, peer, limit, slots)
+    card_open::open_card(words, own, peer, limit, slots)
 }
 
 // Opens a transaction of count data messages whose completion writes value at address, and gives its number; 20 where 32 from the

@@ -12,8 +12,8 @@ use Rattle.card_number.proofs.seal_frame.Reads as reads
 use Rattle.card_number.proofs.seal_frame.Lts as lts
 use Rattle.card_number.proofs.seal_refusal.Reads as seal-refusal-reads
 use Rattle.card_words.proofs.head_of.Reads as head-of-reads
-use Rattle.card_words.proofs.put_head.Reads as put-head-reads
-use Rattle.card_words.proofs.put_size.Reads as put-size-reads
+use Rattle.card_store.proofs.put_head.Reads as put-head-reads
+use Rattle.card_store.proofs.put_size.Reads as put-size-reads
 use Rattle.seq.proofs.FrameNo.advance.Reads as advance-reads
 
 returns : tie.Need-returns

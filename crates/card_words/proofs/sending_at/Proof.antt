@@ -7,6 +7,11 @@ use Rattle.card_words.proofs.sending_at.Statement.{statement}
 use Rattle.card_words.proofs.sending_at.Tie as tie
 use Rattle.card_words.proofs.sending_at.Reads as reads
 use Rattle.card_words.proofs.sending_at.Lts as lts
+use Rattle.card_words.proofs.first.Reads as first-reads
+use Rattle.card_words.proofs.high.Reads as high-reads
+use Rattle.card_words.proofs.low.Reads as low-reads
+use Rattle.card_words.proofs.second.Reads as second-reads
+use Rattle.card_words.proofs.third.Reads as third-reads
 use Rattle.card_words.proofs.word.Reads as word-reads
 
 cast-k : tie.Need-cast-k
@@ -30,25 +35,36 @@ add-word-2 c = search needs
 word-requires-2 : tie.Need-word-requires-2
 word-requires-2 c κs = search needs
 
-cast-t6 : tie.Need-cast-t6
-cast-t6 c = search needs
+low-requires : tie.Need-low-requires
+low-requires c κs = search needs
 
-cast-t12 : tie.Need-cast-t12
-cast-t12 c = search needs
+high-requires : tie.Need-high-requires
+high-requires c κs = search needs
 
-cast-t14 : tie.Need-cast-t14
-cast-t14 c = search needs
+first-requires : tie.Need-first-requires
+first-requires c κs = search needs
 
-cast-t17 : tie.Need-cast-t17
-cast-t17 c = search needs
+second-requires : tie.Need-second-requires
+second-requires c κs = search needs
 
-cast-t20 : tie.Need-cast-t20
-cast-t20 c = search needs
+third-requires : tie.Need-third-requires
+third-requires c κs = search needs
 
 returns : tie.Need-returns
 returns c =
-    let a = c .before .before .before .before .args in
-    rw (c .word2 .ensures, c .before .word .ensures) (sym (sending-is (a .w .now) (a .t .0)))
+    let h = c .before .before .before in
+    let s = h .before .before in
+    let a = s .before .before .before .before .args in
+    rw (
+      c .third .ensures,
+      c .before .second .ensures,
+      c .before .before .first .ensures,
+      h .high .ensures,
+      h .before .low .ensures,
+      s .word2 .ensures,
+      s .before .word .ensures,
+    )
+    (sym (sending-is (a .w .now) (a .t .0)))
 
 pub sending-at-spec : {M : Type 1} → statement M
 sending-at-spec =
@@ -61,9 +77,9 @@ sending-at-spec =
     mul-word-2
     add-word-2
     word-requires-2
-    cast-t6
-    cast-t12
-    cast-t14
-    cast-t17
-    cast-t20
+    low-requires
+    high-requires
+    first-requires
+    second-requires
+    third-requires
     returns)

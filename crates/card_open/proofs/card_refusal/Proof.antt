@@ -4,10 +4,10 @@ use mathlib.Core.Path.{_≡_}
 use borrow.Author.Tests.{eq-eqb, ne-eqb, not-true, not-false}
 use Rattle.card.specs.Card.{fits, cardRefusal}
 use borrow.Author.Needs.{needs}
-use Rattle.card_words.proofs.card_refusal.Statement.{statement}
-use Rattle.card_words.proofs.card_refusal.Tie as tie
-use Rattle.card_words.proofs.card_refusal.Reads as reads
-use Rattle.card_words.proofs.card_refusal.Lts as lts
+use Rattle.card_open.proofs.card_refusal.Statement.{statement}
+use Rattle.card_open.proofs.card_refusal.Tie as tie
+use Rattle.card_open.proofs.card_refusal.Reads as reads
+use Rattle.card_open.proofs.card_refusal.Lts as lts
 use Rattle.card.proofs.is_fitting.Reads as is-fitting-reads
 
 returns : tie.Need-returns

@@ -1,11 +1,11 @@
 -- `put_five`: a run of five stores.
 -- Assumes nothing.
 use borrow.Author.Needs.{needs}
-use Rattle.card_words.proofs.put_five.Statement.{statement}
-use Rattle.card_words.proofs.put_five.Tie as tie
-use Rattle.card_words.proofs.put_five.Reads as reads
-use Rattle.card_words.proofs.put_five.Lts as lts
-use Rattle.card_words.proofs.put.Reads as put-reads
+use Rattle.card_store.proofs.put_five.Statement.{statement}
+use Rattle.card_store.proofs.put_five.Tie as tie
+use Rattle.card_store.proofs.put_five.Reads as reads
+use Rattle.card_store.proofs.put_five.Lts as lts
+use Rattle.card_store.proofs.put.Reads as put-reads
 
 put-requires : tie.Need-put-requires
 put-requires c κs = search needs

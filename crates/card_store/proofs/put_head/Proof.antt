@@ -1,15 +1,15 @@
 -- `put_head`: five words, and the others stay.
 -- Assumes nothing.
 use mathlib.Core.Path.{refl}
-use Rattle.card_words.proofs.Words.{headed-card}
+use Rattle.card_store.proofs.Words.{headed-card}
 use borrow.Author.Needs.{needs}
-use Rattle.card_words.proofs.put_head.Statement.{statement}
-use Rattle.card_words.proofs.put_head.Tie as tie
-use Rattle.card_words.proofs.put_head.Reads as reads
-use Rattle.card_words.proofs.put_head.Lts as lts
-use Rattle.card_words.proofs.four.Reads as four-reads
-use Rattle.card_words.proofs.put_five.Reads as put-five-reads
-use Rattle.card_words.proofs.two.Reads as two-reads
+use Rattle.card_store.proofs.put_head.Statement.{statement}
+use Rattle.card_store.proofs.put_head.Tie as tie
+use Rattle.card_store.proofs.put_head.Reads as reads
+use Rattle.card_store.proofs.put_head.Lts as lts
+use Rattle.card_store.proofs.four.Reads as four-reads
+use Rattle.card_store.proofs.put_five.Reads as put-five-reads
+use Rattle.card_store.proofs.two.Reads as two-reads
 
 returns : tie.Need-returns
 returns c = (λ l. absurd (c .if1 .taken l), λ n. refl)

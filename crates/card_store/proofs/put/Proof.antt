@@ -3,10 +3,10 @@
 use mathlib.Core.Path.{sym}
 use lib.Seq.{set-out}
 use borrow.Author.Needs.{needs}
-use Rattle.card_words.proofs.put.Statement.{statement}
-use Rattle.card_words.proofs.put.Tie as tie
-use Rattle.card_words.proofs.put.Reads as reads
-use Rattle.card_words.proofs.put.Lts as lts
+use Rattle.card_store.proofs.put.Statement.{statement}
+use Rattle.card_store.proofs.put.Tie as tie
+use Rattle.card_store.proofs.put.Reads as reads
+use Rattle.card_store.proofs.put.Lts as lts
 
 mul-w : tie.Need-mul-w
 mul-w c = search needs

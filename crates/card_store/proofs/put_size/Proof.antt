@@ -1,15 +1,15 @@
 -- `put_size`: one word, in which one length is another.
 -- Assumes nothing.
 use mathlib.Core.Path.{refl}
-use Rattle.card_words.proofs.Words.{resized-card}
+use Rattle.card_store.proofs.Words.{resized-card}
 use borrow.Author.Needs.{needs}
-use Rattle.card_words.proofs.put_size.Statement.{statement}
-use Rattle.card_words.proofs.put_size.Tie as tie
-use Rattle.card_words.proofs.put_size.Reads as reads
-use Rattle.card_words.proofs.put_size.Lts as lts
-use Rattle.card_words.proofs.put.Reads as put-reads
-use Rattle.card_words.proofs.with_quarter.Reads as with-quarter-reads
+use Rattle.card_store.proofs.put_size.Statement.{statement}
+use Rattle.card_store.proofs.put_size.Tie as tie
+use Rattle.card_store.proofs.put_size.Reads as reads
+use Rattle.card_store.proofs.put_size.Lts as lts
+use Rattle.card_store.proofs.put.Reads as put-reads
+use Rattle.card_store.proofs.with_quarter.Reads as with-quarter-reads
 use Rattle.card_words.proofs.word.Reads as word-reads
 
 returns : tie.Need-returns
 returns c = (λ l. absurd (c .if1 .taken l), λ n. refl)

@@ -1,15 +1,15 @@
 -- `put_sending`: the two words of the transaction, and the others stay.
 -- Assumes nothing.
 use mathlib.Core.Path.{refl}
-use Rattle.card_words.proofs.Words.{entered-card, sending-by}
+use Rattle.card_store.proofs.Words.{entered-card, sending-by}
 use borrow.Author.Needs.{needs}
-use Rattle.card_words.proofs.put_sending.Statement.{statement}
-use Rattle.card_words.proofs.put_sending.Tie as tie
-use Rattle.card_words.proofs.put_sending.Reads as reads
-use Rattle.card_words.proofs.put_sending.Lts as lts
-use Rattle.card_words.proofs.four.Reads as four-reads
-use Rattle.card_words.proofs.put.Reads as put-reads
-use Rattle.card_words.proofs.two.Reads as two-reads
+use Rattle.card_store.proofs.put_sending.Statement.{statement}
+use Rattle.card_store.proofs.put_sending.Tie as tie
+use Rattle.card_store.proofs.put_sending.Reads as reads
+use Rattle.card_store.proofs.put_sending.Lts as lts
+use Rattle.card_store.proofs.four.Reads as four-reads
+use Rattle.card_store.proofs.put.Reads as put-reads
+use Rattle.card_store.proofs.two.Reads as two-reads
 
 returns : tie.Need-returns
 returns c = (λ l. absurd (c .if1 .taken l), λ n. refl)

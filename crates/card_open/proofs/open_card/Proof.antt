@@ -5,15 +5,15 @@ use native.Mathlib.Omega.{arith}
 use borrow.Author.Tests.{eq-eqb, ne-eqb}
 use Rattle.card.specs.declared.Stepped.{Stepped}
 use Rattle.card.proofs.Slots.{opened-limit}
-use Rattle.card_words.proofs.Words.{blank-card, opened-card, opening-refused, opening-done}
+use Rattle.card_open.proofs.Opening.{blank-card, opened-card, opening-refused, opening-done}
 use borrow.Author.Needs.{needs}
-use Rattle.card_words.proofs.open_card.Statement.{statement}
-use Rattle.card_words.proofs.open_card.Tie as tie
-use Rattle.card_words.proofs.open_card.Reads as reads
-use Rattle.card_words.proofs.open_card.Lts as lts
-use Rattle.card_words.proofs.card_refusal.Reads as card-refusal-reads
-use Rattle.card_words.proofs.clear.Reads as clear-reads
-use Rattle.card_words.proofs.put_head.Reads as put-head-reads
+use Rattle.card_open.proofs.open_card.Statement.{statement}
+use Rattle.card_open.proofs.open_card.Tie as tie
+use Rattle.card_open.proofs.open_card.Reads as reads
+use Rattle.card_open.proofs.open_card.Lts as lts
+use Rattle.card_open.proofs.card_refusal.Reads as card-refusal-reads
+use Rattle.card_open.proofs.clear.Reads as clear-reads
+use Rattle.card_store.proofs.put_head.Reads as put-head-reads
 
 returns : tie.Need-returns
 returns c = (rw (ne-eqb _ 85 (c .if1 .taken)), (λ l. absurd (c .if1 .taken l), λ n. refl))

@@ -3,11 +3,11 @@
 use Prim.Native.Nat.{_-_}
 use native.Mathlib.Omega.{arith}
 use lib.ListN.{length}
-use Rattle.card_words.proofs.Words.{Cleared, none-cleared, one-cleared, all-cleared}
-use Rattle.card_words.proofs.clear.Statement.{statement}
-use Rattle.card_words.proofs.clear.Tie as tie
-use Rattle.card_words.proofs.clear.Reads as reads
-use Rattle.card_words.proofs.clear.Lts as lts
+use Rattle.card_open.proofs.Opening.{Cleared, none-cleared, one-cleared, all-cleared}
+use Rattle.card_open.proofs.clear.Statement.{statement}
+use Rattle.card_open.proofs.clear.Tie as tie
+use Rattle.card_open.proofs.clear.Reads as reads
+use Rattle.card_open.proofs.clear.Lts as lts
 
 abbrev Inv-loop : tie.InvT-loop
 Inv-loop w₀ i₀ w i = Cleared w₀ w i
