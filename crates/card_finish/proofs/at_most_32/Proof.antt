@@ -1,10 +1,10 @@
 -- `at_most_32`: the lesser of two.
 -- Assumes nothing.
 use borrow.Author.Tests.{lt-ltb, le-ltb}
-use Rattle.card_acks.proofs.at_most_32.Statement.{statement}
-use Rattle.card_acks.proofs.at_most_32.Tie as tie
-use Rattle.card_acks.proofs.at_most_32.Reads as reads
-use Rattle.card_acks.proofs.at_most_32.Lts as lts
+use Rattle.card_finish.proofs.at_most_32.Statement.{statement}
+use Rattle.card_finish.proofs.at_most_32.Tie as tie
+use Rattle.card_finish.proofs.at_most_32.Reads as reads
+use Rattle.card_finish.proofs.at_most_32.Lts as lts
 
 returns : tie.Need-returns
 returns c = rw (lt-ltb _ 32 (c .if1 .taken))

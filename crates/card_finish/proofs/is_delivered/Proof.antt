@@ -5,10 +5,10 @@ use borrow.Author.Tests.{eq-eqb, ne-eqb}
 use Rattle.seq.specs.Ring.{frameSpace, distance}
 use Rattle.card.specs.Sendings.{delivered}
 use borrow.Author.Needs.{needs}
-use Rattle.card_acks.proofs.is_delivered.Statement.{statement}
-use Rattle.card_acks.proofs.is_delivered.Tie as tie
-use Rattle.card_acks.proofs.is_delivered.Reads as reads
-use Rattle.card_acks.proofs.is_delivered.Lts as lts
+use Rattle.card_finish.proofs.is_delivered.Statement.{statement}
+use Rattle.card_finish.proofs.is_delivered.Tie as tie
+use Rattle.card_finish.proofs.is_delivered.Reads as reads
+use Rattle.card_finish.proofs.is_delivered.Lts as lts
 use Rattle.card.proofs.messages_of.Reads as messages-of-reads
 use Rattle.seq.proofs.FrameNo.distance.Reads as distance-reads
 

@@ -1,12 +1,12 @@
 -- `acknowledged_marks`: marked before or in the range, and sealed.
 -- Assumes nothing.
-use Rattle.card_acks.proofs.InPlace.{acknowledged-by}
+use Rattle.card_cover.proofs.InPlace.{acknowledged-by}
 use borrow.Author.Needs.{needs}
-use Rattle.card_acks.proofs.acknowledged_marks.Statement.{statement}
-use Rattle.card_acks.proofs.acknowledged_marks.Tie as tie
-use Rattle.card_acks.proofs.acknowledged_marks.Reads as reads
-use Rattle.card_acks.proofs.acknowledged_marks.Lts as lts
-use Rattle.card_acks.proofs.covered.Reads as covered-reads
+use Rattle.card_cover.proofs.acknowledged_marks.Statement.{statement}
+use Rattle.card_cover.proofs.acknowledged_marks.Tie as tie
+use Rattle.card_cover.proofs.acknowledged_marks.Reads as reads
+use Rattle.card_cover.proofs.acknowledged_marks.Lts as lts
+use Rattle.card_cover.proofs.covered.Reads as covered-reads
 use Rattle.card_words.proofs.head_of.Reads as head-of-reads
 use Rattle.bitmap.proofs.word64.below.Reads as below-reads
 use Rattle.seq.proofs.FrameNo.distance.Reads as distance-reads

@@ -1,12 +1,12 @@
 -- `covered`: one run, or two where the range comes round.
 -- Assumes nothing.
 use mathlib.Core.Path.{_∙_}
-use Rattle.card_acks.proofs.InPlace.{covered-near, covered-round}
+use Rattle.card_cover.proofs.InPlace.{covered-near, covered-round}
 use borrow.Author.Needs.{needs}
-use Rattle.card_acks.proofs.covered.Statement.{statement}
-use Rattle.card_acks.proofs.covered.Tie as tie
-use Rattle.card_acks.proofs.covered.Reads as reads
-use Rattle.card_acks.proofs.covered.Lts as lts
+use Rattle.card_cover.proofs.covered.Statement.{statement}
+use Rattle.card_cover.proofs.covered.Tie as tie
+use Rattle.card_cover.proofs.covered.Reads as reads
+use Rattle.card_cover.proofs.covered.Lts as lts
 use Rattle.bitmap.proofs.word64.below.Reads as below-reads
 use Rattle.bitmap.proofs.word64.between.Reads as between-reads
 use Rattle.seq.proofs.FrameNo.distance.Reads as distance-reads

@@ -8,13 +8,13 @@ use borrow.Author.Needs.{needs}
 use Rattle.bitmap.proofs.Marks.{MarkedUpTo, none-marked, one-more}
 use Rattle.card.specs.Sendings.{finishedBy}
 use Rattle.card_words.specs.Words.{cardOf}
-use Rattle.card_acks.proofs.InPlace.{within-32, one-is, finished-all, finished-is, lowest-is, looked-at}
-use Rattle.card_acks.proofs.finished_marks.Statement.{statement}
-use Rattle.card_acks.proofs.finished_marks.Tie as tie
-use Rattle.card_acks.proofs.finished_marks.Reads as reads
-use Rattle.card_acks.proofs.finished_marks.Lts as lts
-use Rattle.card_acks.proofs.at_most_32.Reads as at-most-32-reads
-use Rattle.card_acks.proofs.is_finished.Reads as is-finished-reads
+use Rattle.card_finish.proofs.InPlace.{within-32, one-is, finished-all, finished-is, lowest-is, looked-at}
+use Rattle.card_finish.proofs.finished_marks.Statement.{statement}
+use Rattle.card_finish.proofs.finished_marks.Tie as tie
+use Rattle.card_finish.proofs.finished_marks.Reads as reads
+use Rattle.card_finish.proofs.finished_marks.Lts as lts
+use Rattle.card_finish.proofs.at_most_32.Reads as at-most-32-reads
+use Rattle.card_finish.proofs.is_finished.Reads as is-finished-reads
 use Rattle.card_words.proofs.head_of.Reads as head-of-reads
 use Rattle.bitmap.proofs.word32.with_mark.Reads as with-mark-reads
 use Rattle.seq.proofs.TransNo.distance.Reads as distance-reads

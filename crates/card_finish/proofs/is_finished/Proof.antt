@@ -1,14 +1,14 @@
 -- `is_finished`: the mark, or what is known of the transaction.
 -- Assumes nothing.
 use mathlib.Core.Path.{_∙_}
-use Rattle.card_acks.specs.Covering.{finishedNow}
-use Rattle.card_acks.proofs.InPlace.{entry-is}
+use Rattle.card_finish.specs.Finishing.{finishedNow}
+use Rattle.card_finish.proofs.InPlace.{entry-is}
 use borrow.Author.Needs.{needs}
-use Rattle.card_acks.proofs.is_finished.Statement.{statement}
-use Rattle.card_acks.proofs.is_finished.Tie as tie
-use Rattle.card_acks.proofs.is_finished.Reads as reads
-use Rattle.card_acks.proofs.is_finished.Lts as lts
-use Rattle.card_acks.proofs.is_delivered.Reads as is-delivered-reads
+use Rattle.card_finish.proofs.is_finished.Statement.{statement}
+use Rattle.card_finish.proofs.is_finished.Tie as tie
+use Rattle.card_finish.proofs.is_finished.Reads as reads
+use Rattle.card_finish.proofs.is_finished.Lts as lts
+use Rattle.card_finish.proofs.is_delivered.Reads as is-delivered-reads
 use Rattle.card_words.proofs.sending_at.Reads as sending-at-reads
 use Rattle.bitmap.proofs.word32.is_marked.Reads as is-marked-reads
 use Rattle.seq.proofs.TransNo.advance.Reads as advance-reads
