@@ -47,7 +47,9 @@ none-before-held w clear = leading-is (mark (w .acked)) (unreleased w) 0 (omega 
 
 pub oldest-base : (w : SendWindow) → w .base .0 < frameSpace → beforeHeld w ≡ 0 → oldestHeld w ≡ w .base .0
 unfolding advance
-oldest-base w h e = rw (e, add-zero (w .base .0)) (mod-eq-of-lt h)
+oldest-base w h e =
+    let first : advance frameSpace (w .base .0) 0 ≡ w .base .0 = rw (add-zero (w .base .0)) (mod-eq-of-lt h) in
+    ap (advance frameSpace (w .base .0)) e ∙ first
 
 -- a held number is in the window
 pub held-near : (w : SendWindow) (num : ℕ) → held w num ≡ true → distance frameSpace (w .base .0) num < unreleased w

@@ -9,11 +9,11 @@ use Rattle.card.proofs.messages_of.Lts as lts
 
 returns : tie.Need-returns
 unfolding needed
-returns c = rw (eq-eqb _ _ (c .if1 .taken))
+returns c = rw (eq-eqb (c .before .args .count) 0 (c .if1 .taken))
 
 returns-2 : tie.Need-returns-2
 unfolding needed
-returns-2 c = rw (ne-eqb _ _ (c .if1 .left))
+returns-2 c = rw (ne-eqb (c .before .args .count) 0 (c .if1 .left))
 
 pub messages-of-spec : {M : Type 1} → statement M
 messages-of-spec = tie.close (tie.spec returns returns-2)

@@ -1,6 +1,7 @@
 -- `is_finished`: the mark, or what is known of the transaction.
 -- Assumes nothing.
-use mathlib.Core.Path.{_∙_}
+use mathlib.Core.Path.{_≡_, _∙_}
+use Rattle.bitmap.specs.Marks.{mark}
 use Rattle.card_finish.specs.Finishing.{finishedNow}
 use Rattle.card_finish.proofs.InPlace.{entry-is}
 use borrow.Author.Needs.{needs}
@@ -18,7 +19,10 @@ is-marked-requires c κs = search needs
 
 returns : tie.Need-returns
 unfolding finishedNow
-returns c = rw (← c .before .is-marked .ensures, c .if1 .taken)
+returns c =
+    let a = c .before .before .before .args in
+    let m : c .before .is-marked .result ≡ mark (a .finished) (a .i) = c .before .is-marked .ensures in
+    rw (← m, c .if1 .taken)
 
 advance-requires : tie.Need-advance-requires
 advance-requires c κs = search needs
@@ -35,7 +39,8 @@ returns-2 c =
     let e = c .before in
     let o = e .before .before in
     let a = o .before .before .before .args in
-    rw (← o .before .is-marked .ensures, o .if1 .left)
+    let m : o .before .is-marked .result ≡ mark (a .finished) (a .i) = o .before .is-marked .ensures in
+    rw (← m, o .if1 .left)
     (c .is-delivered .ensures ∙ rw (e .sending-at .ensures, e .before .advance .ensures, entry-is _ (a .lowest .0) (a .i)))
 
 pub is-finished-spec : {M : Type 1} → statement M
