@@ -15,7 +15,8 @@ use Rattle.host.specs.declared.Open.{Open}
 use Rattle.host.specs.Terms.{free}
 use Rattle.host.specs.Transactions.{fills, leftIn}
 use Rattle.host.specs.Host.{effect}
-use Rattle.host_words.specs.Words.{wordCount, entryOf, pairOf, headPart, joined, HoldsEntry}
+use Rattle.host_words.specs.Words.{wordCount, entryOf, pairOf, headPart, joined}
+use Rattle.host_update.specs.Updating.{HoldsEntry}
 
 -- The table and the memory.
 pub record Applied : Type 0 where

@@ -25,8 +25,8 @@ fn take_effect(words: &mut [u64], memory: &mut [u8], h: MessageHeader, payload: 
     ensures { λ _. ⌜ TakesEffect (now (words .entry)) (now (memory .entry)) h (now (payload .entry)) (now (words .exit)) (now (memory .exit)) ⌝ }
 {
     let o = host_words::entry(words, h.trans.0);
-    write_message(memory, h, payload, host_message::completes(o, h));
-    host_words::put_entry(words, h.trans.0, host_message::left_in(o, h));
+    write_message(memory, h, payload, host_verdict::completes(o, h));
+    host_update::put_entry(words, h.trans.0, host_verdict::left_in(o, h));
 }
 
 // The first n messages of a frame take effect, or as many as it has.

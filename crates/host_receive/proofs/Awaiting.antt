@@ -48,7 +48,9 @@ use Rattle.host_validate.specs.declared.Validated.{Validated}
 use Rattle.host_validate.specs.Validating.{noneYet, validatedFrom, validatedOf}
 use Rattle.host_validate.proofs.Walk.{validated-short}
 use Rattle.host_apply.specs.Applying.{Applied, appliedFrom}
-use Rattle.host_receive.specs.Receiving.{refusedWith, numberAnswered, acceptedHead, Awaited}
+use Rattle.host_refuse.specs.Refusing.{refusedWith, numberAnswered}
+use Rattle.host_number.specs.Numbering.{acceptedHead}
+use Rattle.host_receive.specs.Receiving.{Awaited}
 use Rattle.host_receive.proofs.Passes.{tallyOfBoth, taken-all, not-taken-all, validated-cut}
 
 -- nothing changed, in its three parts

@@ -15,7 +15,8 @@ use Rattle.host.specs.declared.Open.{Open}
 use Rattle.host.specs.declared.Pair.{Pair}
 use Rattle.host.specs.declared.Verdict.{Verdict}
 use Rattle.host.specs.Terms.{free}
-use Rattle.host_words.specs.Words.{entryOf, pairOf, HoldsEntry}
+use Rattle.host_words.specs.Words.{entryOf, pairOf}
+use Rattle.host_update.specs.Updating.{HoldsEntry}
 use Rattle.host_words.proofs.Words.{entry-at, length-table}
 use Rattle.host_validate.specs.Validating.{current, Marks, Notes}
 use Rattle.host_validate.proofs.Alike.{Alike}

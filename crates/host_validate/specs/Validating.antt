@@ -16,7 +16,8 @@ use Rattle.host.specs.declared.Open.{Open}
 use Rattle.host.specs.declared.Verdict.{Verdict}
 use Rattle.host.specs.Transactions.{Transactions, verdict, after}
 use Rattle.host.specs.Host.{transactionsOf}
-use Rattle.host_words.specs.Words.{entryOf, pairOf, HoldsEntry}
+use Rattle.host_words.specs.Words.{entryOf, pairOf}
+use Rattle.host_update.specs.Updating.{HoldsEntry}
 use Rattle.host_validate.specs.declared.Validated.{Validated}
 
 -- The messages judged so far: the transactions as they leave them, how many there are, their data bytes, and how many

@@ -117,7 +117,7 @@ fn note(kept: &mut [u64], changed: u32, number: u32, v: Verdict) -> u32
     ensures { λ r. ⌜ Notes (now (kept .entry)) changed (number % 32) v (now (kept .exit)) r ⌝ }
 {
     let left = v.entry;
-    host_words::put_entry(kept, number, left);
+    host_update::put_entry(kept, number, left);
     word32::with_mark(changed, number % 32)
 }
 
@@ -156,7 +156,7 @@ fn find_apart(words: &[u64], f: &[u8], size: usize) -> Validated
                     return refused_at(MET_AGAIN, 0);
                 }
                 let o = host_words::entry(words, number);
-                let v = host_message::judge(lowest, closed, o, h, len, size);
+                let v = host_verdict::judge(lowest, closed, o, h, len, size);
                 if v.refusal != 0 {
                     return refused_at(v.refusal, counts.messages);
                 }
@@ -193,7 +193,7 @@ fn find_kept(words: &[u64], kept: &mut [u64], f: &[u8], size: usize) -> Validate
             Found::Whole(h, len, more, next) => {
                 let number = h.trans.0;
                 let o = current_entry(words, kept, changed, number);
-                let v = host_message::judge(lowest, closed, o, h, len, size);
+                let v = host_verdict::judge(lowest, closed, o, h, len, size);
                 if v.refusal != 0 {
                     return refused_at(v.refusal, counts.messages);
                 }

@@ -2,13 +2,10 @@
 -- two words for each entry of the table. Any words at all hold a pair: one that is not there counts as 0, and bits that
 -- have no meaning are not looked at.
 use Prim.Native.Nat.{ℕ, zero, suc, _+_, _*_, _/_, _%_}
-use mathlib.Core.Path.{_≡_}
-use mathlib.Core.Logic.{_≢_}
 use mathlib.Core.List.{List, [], _∷_}
-use lib.ListN.{length, getD, set}
+use lib.ListN.{getD}
 use Rattle.host.specs.declared.Open.{Open}
 use Rattle.host.specs.declared.Pair.{Pair}
-use Rattle.host.specs.Host.{openedOf}
 use Rattle.host_words.specs.declared.Head.{Head}
 
 abbrev pub wordCount : ℕ
@@ -44,22 +41,6 @@ pairOf w = record {
   table = entriesFrom 32 0 w;
 }
 
--- ---- words written
-
--- The words with entry s set to o.
-unfoldable pub withEntry : List ℕ → ℕ → Open → List ℕ
-withEntry w s o =
-    set (set w (3 + 2 * s) (o .address + o .value * 4294967296)) (4 + 2 * s) (o .count + o .received * 65536)
-
--- The words with those before the table set.
-unfoldable pub withHead : List ℕ → Head → List ℕ
-withHead w h =
-    set
-    (set
-    (set w 0 (h .own + h .peer * 65536 + h .next .0 * 4294967296))
-    1 (h .marks))
-    2 (h .lowest .0 + h .closed * 4294967296)
-
 -- A pair in two parts: what stands before the table, and the table.
 abbrev pub headPart : Pair → Head
 headPart p = record { own = p .own; peer = p .peer; next = p .next; marks = p .marks; lowest = p .lowest; closed = p .closed }
@@ -75,31 +56,6 @@ joined h table = record {
   table = table;
 }
 
--- ---- what is promised of 67 words, and of any other number of them
-
--- Entry s of the pair is o now, and all else is as it was.
-abbrev pub HoldsEntry : List ℕ → List ℕ → ℕ → Open → Type 0
-HoldsEntry w left s o =
-    length w ≡ wordCount → pairOf left ≡ joined (headPart (pairOf w)) (set (pairOf w .table) s o)
-
--- What stands before the table is h now, and the table is as it was.
-abbrev pub HoldsHead : List ℕ → List ℕ → Head → Type 0
-HoldsHead w left h = length w ≡ wordCount → pairOf left ≡ joined h (pairOf w .table)
-
--- The table is as given now, and what stands before it is as it was.
-abbrev pub HoldsTable : List ℕ → List ℕ → List Open → Type 0
-HoldsTable w left table = length w ≡ wordCount → pairOf left ≡ joined (headPart (pairOf w)) table
-
--- 67 words hold the pair now; others are as they were.
-abbrev pub Holds : List ℕ → List ℕ → Pair → Type 0
-Holds w left p = (length w ≡ wordCount → pairOf left ≡ p) × (length w ≢ wordCount → left ≡ w)
-
 -- The answer to words of another number than 67: no refusal of the rules.
 abbrev pub otherLength : ℕ
 otherLength = 255
-
--- Opening in 67 words, and its refusal, 0 for none.
-abbrev pub Opens : List ℕ → ℕ → ℕ → List ℕ → ℕ → Type 0
-Opens w own peer left r =
-    (length w ≡ wordCount → (pairOf left ≡ openedOf own peer .pair) × (r ≡ openedOf own peer .refusal .number))
-    × (length w ≢ wordCount → (left ≡ w) × (r ≡ otherLength))

@@ -1,25 +1,12 @@
-// The charging host's pair in 67 words that a caller lends: reading and writing it where it lies, packing and unpacking
-// it, and opening it there. Assumes nothing of the words or of their number: a word that is not there is 0, and a write
-// there is none. It promises what the words hold then (specs/Words.antt).
+// The charging host's pair in 67 words that a caller lends, read where it lies. Assumes nothing of the words or of their
+// number: a word that is not there is 0. It promises the pair that the words hold (specs/Words.antt).
 use host::Open;
-use host::Pair;
 use seq::FrameNo;
 use seq::TransNo;
 ghost use mathlib.Core.Path.{_≡_};
 ghost use Prim.Native.Nat.{_%_};
-ghost use lib.ListN.{getD, set};
-ghost use Rattle.host_words.specs.Words.{
-  openOf,
-  entryOf,
-  pairOf,
-  withEntry,
-  withHead,
-  HoldsEntry,
-  HoldsHead,
-  HoldsTable,
-  Holds,
-  Opens,
-};
+ghost use lib.ListN.{getD};
+ghost use Rattle.host_words.specs.Words.{openOf, entryOf, pairOf};
 
 // So many words hold a pair.
 pub const WORDS: usize = 67;
@@ -45,15 +32,6 @@ fn word(w: &[u64], i: usize) -> u64
         return w[i];
     }
     0
-}
-
-// Stores a word, and nothing past the end.
-fn put(w: &mut [u64], i: usize, v: u64)
-    ensures { λ _. ⌜ now (w .exit) ≡ set (now (w .entry)) i v ⌝ }
-{
-    if i < w.len() {
-        w[i] = v;
-    }
 }
 
 pub fn own(w: &[u64]) -> u16
@@ -112,97 +90,4 @@ pub fn entry(w: &[u64], number: u32) -> Open
     let terms = word(w, 3 + 2 * s);
     let counts = word(w, 4 + 2 * s);
     open_of(terms, counts)
-}
-
-// Sets the entry of the transaction with this number.
-pub fn put_entry(w: &mut [u64], number: u32, o: Open)
-    ensures { λ _. ⌜ now (w .exit) ≡ withEntry (now (w .entry)) (number % 32) o ⌝ }
-    ensures { λ _. ⌜ HoldsEntry (now (w .entry)) (now (w .exit)) (number % 32) o ⌝ }
-{
-    let s = (number % 32) as usize;
-    let terms = o.address as u64 + o.value as u64 * 4294967296;
-    let counts = o.count as u64 + o.received as u64 * 65536;
-    put(w, 3 + 2 * s, terms);
-    put(w, 4 + 2 * s, counts);
-}
-
-// Sets what stands before the table.
-pub fn put_head(w: &mut [u64], h: Head)
-    ensures { λ _. ⌜ now (w .exit) ≡ withHead (now (w .entry)) h ⌝ }
-    ensures { λ _. ⌜ HoldsHead (now (w .entry)) (now (w .exit)) h ⌝ }
-{
-    let ids = h.own as u64 + h.peer as u64 * 65536 + h.next.0 as u64 * 4294967296;
-    let window = h.lowest.0 as u64 + h.closed as u64 * 4294967296;
-    put(w, 0, ids);
-    put(w, 1, h.marks);
-    put(w, 2, window);
-}
-
-// The table of the words.
-fn table_of(w: &[u64]) -> [Open; 32]
-    ensures { λ r. ⌜ r ≡ pairOf (now (w .entry)) .table ⌝ }
-{
-    let mut table = [host::FREE; 32];
-    for i in 0..32usize {
-        table[i] = entry(w, i as u32);
-    }
-    table
-}
-
-// The pair that the words hold.
-pub fn unpack(w: &[u64]) -> Pair
-    ensures { λ r. ⌜ r ≡ pairOf (now (w .entry)) ⌝ }
-{
-    let table = table_of(w);
-    Pair {
-        own: own(w),
-        peer: peer(w),
-        next: next(w),
-        marks: marks(w),
-        lowest: lowest(w),
-        closed: closed(w),
-        table,
-    }
-}
-
-fn put_table(w: &mut [u64], table: [Open; 32])
-    ensures { λ _. ⌜ HoldsTable (now (w .entry)) (now (w .exit)) table ⌝ }
-{
-    for i in 0..32usize {
-        let o = table[i];
-        put_entry(w, i as u32, o);
-    }
-}
-
-// Makes 67 words hold the pair; others stay as they are.
-pub fn pack(w: &mut [u64], p: Pair)
-    ensures { λ _. ⌜ Holds (now (w .entry)) (now (w .exit)) p ⌝ }
-{
-    if w.len() != WORDS {
-        return;
-    }
-    let head = Head {
-        own: p.own,
-        peer: p.peer,
-        next: FrameNo(p.next.0),
-        marks: p.marks,
-        lowest: TransNo(p.lowest.0),
-        closed: p.closed,
-    };
-    put_head(w, head);
-    let table = p.table;
-    put_table(w, table);
-}
-
-// Opens a pair in 67 words: 0, or refusal 13 where an ID is 0. Words of another number stay as they are.
-pub fn open_in_place(w: &mut [u64], own: u16, peer: u16) -> u8
-    ensures { λ r. ⌜ Opens (now (w .entry)) own peer (now (w .exit)) r ⌝ }
-{
-    if w.len() != WORDS {
-        return OTHER_LENGTH;
-    }
-    let opened = host_pair::open_pair(own, peer);
-    let pair = opened.pair;
-    pack(w, pair);
-    opened.refusal.number
 }

@@ -45,7 +45,7 @@ pub fn open_host(words: &mut [u64; 67], own: u16, peer: u16) -> u8
     ensures { λ r. ⌜ r ≡ hostOpened own peer .refusal .number ⌝ }
     ensures { λ _. ⌜ pairOf (now (words .exit)) ≡ hostOpened own peer .pair ⌝ }
 {
-    host_words::open_in_place(words, own, peer)
+    host_open::open_in_place(words, own, peer)
 }
 
 // Receives a frame. Words and memory change only where it is accepted.
@@ -90,7 +90,7 @@ pub fn receive_by_value(pair: Pair, frame: &[u8], memory: &mut [u8]) -> Stepped
     ensures { λ r. ⌜ r ≡ steppedOf (specifiedHost .receiving pair (now (frame .entry)) (now (memory .entry))) ⌝ }
     ensures { λ _. ⌜ now (memory .exit) ≡ specifiedHost .receiving pair (now (frame .entry)) (now (memory .entry)) .memory ⌝ }
 {
-    host_receive::receive(pair, frame, memory)
+    host_by_value::receive(pair, frame, memory)
 }
 
 // The acknowledgement that an answer calls for, from a pair as a value.

@@ -7,10 +7,10 @@ use Rattle.host_apply.proofs.take_effect.Tie as tie
 use Rattle.host_apply.proofs.take_effect.Reads as reads
 use Rattle.host_apply.proofs.take_effect.Lts as lts
 use Rattle.host_apply.proofs.write_message.Reads as write-message-reads
-use Rattle.host_message.proofs.completes.Reads as completes-reads
-use Rattle.host_message.proofs.left_in.Reads as left-in-reads
+use Rattle.host_verdict.proofs.completes.Reads as completes-reads
+use Rattle.host_verdict.proofs.left_in.Reads as left-in-reads
 use Rattle.host_words.proofs.entry.Reads as entry-reads
-use Rattle.host_words.proofs.put_entry.Reads as put-entry-reads
+use Rattle.host_update.proofs.put_entry.Reads as put-entry-reads
 
 entry-requires : tie.Need-entry-requires
 entry-requires c κs = search needs

@@ -10,8 +10,8 @@ use Rattle.host_receive.proofs.take_in.Tie as tie
 use Rattle.host_receive.proofs.take_in.Reads as reads
 use Rattle.host_receive.proofs.take_in.Lts as lts
 use Rattle.host_apply.proofs.apply.Reads as apply-reads
-use Rattle.host_receive.proofs.accept.Reads as accept-reads
-use Rattle.host_receive.proofs.refuse.Reads as refuse-reads
+use Rattle.host_number.proofs.accept.Reads as accept-reads
+use Rattle.host_refuse.proofs.refuse.Reads as refuse-reads
 use Rattle.host_validate.proofs.validate.Reads as validate-reads
 use Rattle.host_words.proofs.own.Reads as own-reads
 use Rattle.host_words.proofs.peer.Reads as peer-reads
@@ -60,7 +60,7 @@ returns-2 c =
     let applied = c .before .before .before .before .before .before .before .before .before .apply in
     let n = new-taken (pairOf (a .words .now)) (a .f .now) (a .memory .now) _ d w new clear _
     (passed .before .before .validate .ensures) (passed .if1 .left) in (
-      c .before .before .accept .ensures (applied .kept .0 ∙ l)
+      c .before .before .accept .ensures .1 (applied .kept .0 ∙ l)
           ∙ rw (applied .ensures .0 l .0) (sym (ap (λ (r : Received). r .pair) n)),
       applied .ensures .0 l .1 ∙ sym (ap (λ (r : Received). r .memory) n),
       sym (ap (λ (r : Received). r .answer) n),

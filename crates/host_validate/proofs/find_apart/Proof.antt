@@ -27,7 +27,7 @@ use Rattle.host_validate.proofs.find_apart.Statement.{statement}
 use Rattle.host_validate.proofs.find_apart.Tie as tie
 use Rattle.host_validate.proofs.find_apart.Reads as reads
 use Rattle.host_validate.proofs.find_apart.Lts as lts
-use Rattle.host_message.proofs.judge.Reads as judge-reads
+use Rattle.host_verdict.proofs.judge.Reads as judge-reads
 use Rattle.host_validate.proofs.counted.Reads as counted-reads
 use Rattle.host_validate.proofs.marked.Reads as marked-reads
 use Rattle.host_validate.proofs.passed.Reads as passed-reads

@@ -23,7 +23,7 @@ use Rattle.host_validate.proofs.find_kept.Statement.{statement}
 use Rattle.host_validate.proofs.find_kept.Tie as tie
 use Rattle.host_validate.proofs.find_kept.Reads as reads
 use Rattle.host_validate.proofs.find_kept.Lts as lts
-use Rattle.host_message.proofs.judge.Reads as judge-reads
+use Rattle.host_verdict.proofs.judge.Reads as judge-reads
 use Rattle.host_validate.proofs.counted.Reads as counted-reads
 use Rattle.host_validate.proofs.current_entry.Reads as current-entry-reads
 use Rattle.host_validate.proofs.note.Reads as note-reads

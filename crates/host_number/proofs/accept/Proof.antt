@@ -1,0 +1,109 @@
+-- `host_number::accept`: the mark and the move of the frame window.
+-- Assumes nothing.
+use mathlib.Core.Path.{_∙_}
+use native.Mathlib.Omega.{arith}
+use Rattle.bitmap.proofs.Marks.{ones-le}
+use Rattle.host_number.specs.Numbering.{acceptedHead}
+use borrow.Author.Needs.{needs}
+use Rattle.host_number.proofs.accept.Statement.{statement}
+use Rattle.host_number.proofs.accept.Tie as tie
+use Rattle.host_number.proofs.accept.Reads as reads
+use Rattle.host_number.proofs.accept.Lts as lts
+use Rattle.host_words.proofs.marks.Reads as marks-reads
+use Rattle.host_words.proofs.next.Reads as next-reads
+use Rattle.host_words.proofs.own.Reads as own-reads
+use Rattle.host_words.proofs.peer.Reads as peer-reads
+use Rattle.host_update.proofs.put_head.Reads as put-head-reads
+use Rattle.bitmap.proofs.word64.trailing_ones.Reads as trailing-ones-reads
+use Rattle.bitmap.proofs.word64.shifted.Reads as shifted-reads
+use Rattle.bitmap.proofs.word64.with_mark.Reads as with-mark-reads
+use Rattle.seq.proofs.FrameNo.advance.Reads as advance-reads
+use Rattle.seq.proofs.FrameNo.distance.Reads as distance-reads
+
+next-requires : tie.Need-next-requires
+next-requires c κs = search needs
+
+marks-requires : tie.Need-marks-requires
+marks-requires c κs = search needs
+
+distance-requires : tie.Need-distance-requires
+distance-requires c κs = search needs
+
+cast-with-mark : tie.Need-cast-with-mark
+cast-with-mark c = search needs
+
+with-mark-requires : tie.Need-with-mark-requires
+with-mark-requires c κs = search needs
+
+trailing-ones-requires : tie.Need-trailing-ones-requires
+trailing-ones-requires c κs = search needs
+
+own-requires : tie.Need-own-requires
+own-requires c κs = search needs
+
+peer-requires : tie.Need-peer-requires
+peer-requires c κs = search needs
+
+cast-advance : tie.Need-cast-advance
+cast-advance c = omega (arith, c .before .before .before .before .trailing-ones .ensures, ones-le 64 (c .before .before .before .before .before .with-mark .result))
+
+advance-requires : tie.Need-advance-requires
+advance-requires c κs = search needs
+
+shifted-requires : tie.Need-shifted-requires
+shifted-requires c κs = search needs
+
+put-head-requires : tie.Need-put-head-requires
+put-head-requires c κs = search needs
+
+same-length : tie.Need-same-length
+same-length c = search needs
+
+returns : tie.Need-returns
+unfolding acceptedHead
+returns c =
+    let moved = c .before .before .before .before in
+    let known = moved .before .before .before .before .before in
+    let stored = c .before .before .put-head in (
+      stored .ensures .0 ∙ rw (
+        moved .shifted .ensures,
+        moved .before .advance .ensures,
+        moved .before .before .peer .ensures,
+        moved .before .before .before .before .own .ensures,
+        known .before .trailing-ones .ensures,
+        known .before .before .with-mark .ensures,
+        known .before .before .before .distance .ensures,
+        known .before .before .before .before .marks .ensures,
+        known .before .before .before .before .before .before .next .ensures,
+      ),
+      λ l. stored .ensures .1 l ∙ rw (
+        moved .shifted .ensures,
+        moved .before .advance .ensures,
+        moved .before .before .peer .ensures,
+        moved .before .before .before .before .own .ensures,
+        known .before .trailing-ones .ensures,
+        known .before .before .with-mark .ensures,
+        known .before .before .before .distance .ensures,
+        known .before .before .before .before .marks .ensures,
+        known .before .before .before .before .before .before .next .ensures,
+      ),
+    )
+
+pub accept-spec : {M : Type 1} → statement M
+accept-spec =
+    tie.close
+    (tie.spec
+    next-requires
+    marks-requires
+    distance-requires
+    cast-with-mark
+    with-mark-requires
+    trailing-ones-requires
+    own-requires
+    peer-requires
+    cast-advance
+    advance-requires
+    shifted-requires
+    put-head-requires
+    same-length
+    returns)
