@@ -1,5 +1,5 @@
--- What the library's functions answer and leave, said by the very ends that the theorem of delivery is about: each line is a field of
--- `specifiedHost` or `specifiedCard`, on the pair or the card that the lent words hold.
+-- What the library's functions answer and leave, said by the very ends that the theorem of delivery is about: each line
+-- is a field of `specifiedHost` or `specifiedCard`, on the pair or the card that the lent words hold.
 use Prim.Native.Nat.{ℕ}
 use mathlib.Core.List.{List, []}
 use Rattle.host.specs.declared.Answer.{Answer}

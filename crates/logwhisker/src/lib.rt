@@ -1,6 +1,6 @@
-// The library's face: what a caller in Rattle uses. Both ends in place over words that the caller lends, and the host by value; a
-// frame's layout; a refusal's class. Assumes nothing: any words are a state, and any bytes get an answer. It promises what
-// specs/Face.antt says, which is what the theorem of the crate delivery is about.
+// The library's face: what a caller in Rattle uses. Both ends in place over words that the caller lends, and the host
+// by value; a frame's layout; a refusal's class. Assumes nothing: any words are a state, and any bytes get an answer.
+// It promises what specs/Face.antt says, which is what the theorem of the crate delivery is about.
 pub use card_number::OpenedTransaction;
 pub use card_number::SealedFrame;
 pub use card_send::Choice;
@@ -51,8 +51,10 @@ pub fn open_host(words: &mut [u64; 67], own: u16, peer: u16) -> u8
 // Receives a frame. Words and memory change only where it is accepted.
 pub fn receive(words: &mut [u64; 67], frame: &[u8], memory: &mut [u8]) -> Answer
     ensures { λ r. ⌜ r ≡ received (now (words .entry)) (now (frame .entry)) (now (memory .entry)) .answer ⌝ }
-    ensures { λ _. ⌜ pairOf (now (words .exit)) ≡ received (now (words .entry)) (now (frame .entry)) (now (memory .entry)) .pair ⌝ }
-    ensures { λ _. ⌜ now (memory .exit) ≡ received (now (words .entry)) (now (frame .entry)) (now (memory .entry)) .memory ⌝ }
+    ensures { λ _. ⌜ pairOf (now (words .exit))
+        ≡ received (now (words .entry)) (now (frame .entry)) (now (memory .entry)) .pair ⌝ }
+    ensures { λ _. ⌜ now (memory .exit)
+        ≡ received (now (words .entry)) (now (frame .entry)) (now (memory .entry)) .memory ⌝ }
 {
     host_receive::receive_in_place(words, frame, memory)
 }
@@ -88,7 +90,8 @@ pub fn describe_host(words: &[u64; 67]) -> [u64; 167]
 // Receives a frame with the pair as a value, which comes back with the answer.
 pub fn receive_by_value(pair: Pair, frame: &[u8], memory: &mut [u8]) -> Stepped
     ensures { λ r. ⌜ r ≡ steppedOf (specifiedHost .receiving pair (now (frame .entry)) (now (memory .entry))) ⌝ }
-    ensures { λ _. ⌜ now (memory .exit) ≡ specifiedHost .receiving pair (now (frame .entry)) (now (memory .entry)) .memory ⌝ }
+    ensures { λ _. ⌜ now (memory .exit)
+        ≡ specifiedHost .receiving pair (now (frame .entry)) (now (memory .entry)) .memory ⌝ }
 {
     host_by_value::receive(pair, frame, memory)
 }
@@ -102,8 +105,8 @@ pub fn acknowledge_by_value(pair: Pair, answer: Answer, number: FrameNo) -> Ackn
 
 // ---- the card, in 85 words
 
-// Opens a card with a frame limit; 13 where an ID is 0, then 26 where the limit or the slot buffer is not as it must be. Where it
-// is refused, the card is a fresh one with both IDs and the limit 0.
+// Opens a card with a frame limit; 13 where an ID is 0, then 26 where the limit or the slot buffer is not as it must
+// be. Where it is refused, the card is a fresh one with both IDs and the limit 0.
 pub fn open_card(words: &mut [u64; 85], own: u16, peer: u16, limit: usize, slots: &[u8]) -> u8
     ensures { λ r. ⌜ r ≡ cardOpened own peer limit (now (slots .entry)) .refusal ⌝ }
     ensures { λ _. ⌜ cardOf (now (words .exit)) ≡ cardOpened own peer limit (now (slots .entry)) .card ⌝ }
@@ -111,8 +114,8 @@ pub fn open_card(words: &mut [u64; 85], own: u16, peer: u16, limit: usize, slots
     card_open::open_card(words, own, peer, limit, slots)
 }
 
-// Opens a transaction of count data messages whose completion writes value at address, and gives its number; 20 where 32 from the
-// lowest unfinished one on are open or finished.
+// Opens a transaction of count data messages whose completion writes value at address, and gives its number; 20 where
+// 32 from the lowest unfinished one on are open or finished.
 pub fn open_transaction(
     words: &mut [u64; 85],
     count: u16,
@@ -134,7 +137,8 @@ pub fn add_message(
     address: u32,
     payload: &[u8],
 ) -> u8
-    ensures { λ r. ⌜ r ≡ messageAdded (now (words .entry)) (now (slots .entry)) (trans .0) address (now (payload .entry)) .refusal ⌝ }
+    ensures { λ r. ⌜ r
+        ≡ messageAdded (now (words .entry)) (now (slots .entry)) (trans .0) address (now (payload .entry)) .refusal ⌝ }
     ensures { λ _. ⌜ cardOf (now (words .exit))
         ≡ messageAdded (now (words .entry)) (now (slots .entry)) (trans .0) address (now (payload .entry)) .card ⌝ }
     ensures { λ _. ⌜ now (slots .exit)
@@ -174,8 +178,8 @@ pub fn show_refusal(words: &[u64; 85], slots: &[u8], number: FrameNo) -> u8
     card_send::show_refusal(words, slots, number)
 }
 
-// Chooses what goes out next: the lent acknowledgement if it has 10 bytes, else the oldest held frame, each as a part of its own
-// buffer; an empty part where the choice is refused.
+// Chooses what goes out next: the lent acknowledgement if it has 10 bytes, else the oldest held frame, each as a part
+// of its own buffer; an empty part where the choice is refused.
 pub fn choose_next<'a>(words: &[u64; 85], slots: &'a [u8], ack: &'a [u8]) -> &'a [u8]
     ensures { λ r. ⌜ now r ≡ nextChosen (now (words .entry)) (now (slots .entry)) (now (ack .entry)) .part ⌝ }
 {

@@ -20,8 +20,10 @@ returns : tie.Need-returns
 unfolding openedIn
 returns c =
     let e : length (c .before .before .args .words .now) ≡ 85 = omega arith in
-    let k = c .open-transaction .ensures in
-    (ap (λ (o : OpenedTransaction). o .refusal) (k .0) ∙ rw (eq-eqb _ 85 e), (ap (λ (o : OpenedTransaction). o .trans) (k .0) ∙ rw (eq-eqb _ 85 e), k .1 .0 e))
+    let k = c .open-transaction .ensures in (
+      ap (λ (o : OpenedTransaction). o .refusal) (k .0) ∙ rw (eq-eqb _ 85 e),
+      (ap (λ (o : OpenedTransaction). o .trans) (k .0) ∙ rw (eq-eqb _ 85 e), k .1 .0 e),
+    )
 
 pub open-transaction-spec : {M : Type 1} → statement M
 open-transaction-spec = tie.close (tie.spec open-transaction-requires returns)

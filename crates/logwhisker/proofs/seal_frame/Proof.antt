@@ -20,8 +20,10 @@ returns : tie.Need-returns
 unfolding sealedIn
 returns c =
     let e : length (c .before .before .before .args .words .now) ≡ 85 = omega arith in
-    let k = c .seal-frame .ensures in
-    (ap (λ (s : SealedFrame). s .refusal) (k .0) ∙ rw (eq-eqb _ 85 e), (ap (λ (s : SealedFrame). s .number) (k .0) ∙ rw (eq-eqb _ 85 e), k .1 .0 e))
+    let k = c .seal-frame .ensures in (
+      ap (λ (s : SealedFrame). s .refusal) (k .0) ∙ rw (eq-eqb _ 85 e),
+      (ap (λ (s : SealedFrame). s .number) (k .0) ∙ rw (eq-eqb _ 85 e), k .1 .0 e),
+    )
 
 pub seal-frame-spec : {M : Type 1} → statement M
 seal-frame-spec = tie.close (tie.spec seal-frame-requires returns)
