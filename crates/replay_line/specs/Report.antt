@@ -5,15 +5,14 @@ use mathlib.Core.List.{List, [], _∷_}
 use lib.ListN.{take}
 use Rattle.hex_line.specs.declared.Line.{Line}
 use Rattle.hex_line.specs.Taking.{refusedLine}
-use Rattle.text_answer.specs.AnswerLine.{lineEnd, withLine}
 use Rattle.host.specs.declared.Pair.{Pair}
 use Rattle.host.specs.declared.Answer.{Answer}
 use Rattle.host.specs.declared.Answer.the-variants.{Accepted, Again, NoMessages, Refused}
 use Rattle.host.specs.Host.{Received, unchanged, refused, receiveOf}
 use Rattle.replay_line.specs.declared.Totals.{Totals}
 
--- A line that is no frame gets 14, before all others; any other is received as the bytes that it spells, which stand at the start
--- of the frame buffer.
+-- A line that is no frame gets 14, before all others; any other is received as the bytes that it spells, which stand at
+-- the start of the frame buffer.
 unfoldable pub answeredLine : Pair → Line → List ℕ → List ℕ → Received
 answeredLine p line frame memory =
     cond (refusedLine line) (unchanged p memory (refused 14 0)) (receiveOf p (take (line .len) frame) memory)

@@ -66,9 +66,10 @@ same-length c = search needs
 
 returns : tie.Need-returns
 returns c =
-    let c10 = c .before .before .before .before .before .before .before .before .before .before in (
-      rw (c10 .answer .given .1) (c .before .before .put-line .ensures .0),
-      rw (c10 .answer .given .1) (c .before .before .put-line .ensures .1),
+    let line = c .before .before in
+    let told = line .before .before .before .before .before .before .before .before .answer .given .1 in (
+      rw told (line .put-line .ensures .0),
+      rw told (line .put-line .ensures .1),
     )
 
 same-length-2 : tie.Need-same-length-2
