@@ -2,7 +2,17 @@
 -- window of marks that moves on.
 -- Assumes nothing.
 use Prim.Native.Nat.{ℕ, zero, suc, _+_, _-_, _*_, _^_, _/_, _%_, _≤_, _<_, zero-le}
-use native.Mathlib.Nat.{add-zero, not-suc-le-zero, le-refl, lt-of-lt-of-le, mod-eq-of-lt, div-eq-of-lt, div-self, div-one, div-le-self}
+use native.Mathlib.Nat.{
+  add-zero,
+  not-suc-le-zero,
+  le-refl,
+  lt-of-lt-of-le,
+  mod-eq-of-lt,
+  div-eq-of-lt,
+  div-self,
+  div-one,
+  div-le-self,
+}
 use native.Mathlib.Nat.{div-div-eq-div-mul, mul-div-cancel, one-mul, pow-suc, pow-succ'}
 use native.Mathlib.Numerals.{add-one}
 use native.Mathlib.Decide.{decLe, decLt}
@@ -281,7 +291,8 @@ marksOf-more zero p = go (p 0)
     go : (b : Bool) → cond b 1 0 + 2 * 0 ≡ 0 + cond b (2 ^ 0) 0
     go true = refl
     go false = refl
-marksOf-more (suc n) p = rw (marksOf-more n (λ i. p (suc i))) (go (p (suc n)) (marksOf n (λ i. p (suc i))) (cond (p 0) 1 0))
+marksOf-more (suc n) p =
+    rw (marksOf-more n (λ i. p (suc i))) (go (p (suc n)) (marksOf n (λ i. p (suc i))) (cond (p 0) 1 0))
   where
     go : (b : Bool) (x l : ℕ) → l + 2 * (x + cond b (2 ^ n) 0) ≡ l + 2 * x + cond b (2 ^ suc n) 0
     go true x l = omega (arith, pow-succ' 2 n)

@@ -1,10 +1,10 @@
 -- The bits of words put together, mark by mark, and words with a run of marks, for words of any width.
 -- Assumes nothing.
-use Prim.Native.Nat.{ℕ, zero, suc, _+_, _-_, _*_, _^_, _/_, _%_, _≤_, _<_}
+use Prim.Native.Nat.{ℕ, zero, suc, _-_, _*_, _^_, _/_, _%_, _≤_, _<_}
 use native.Mathlib.Nat.{lt-of-lt-of-le, one-mul, mod-eq-of-lt, pow-succ'}
 use native.Mathlib.Decide.{decLt}
 use native.Mathlib.Omega.{arith}
-use mathlib.Core.Path.{_≡_, refl, sym, ap, _∙_}
+use mathlib.Core.Path.{_≡_, refl, sym, _∙_}
 use mathlib.Core.Logic.{⊎-elim}
 use mathlib.Core.Bool.{Bool, true, false, not, _&&_, _||_}
 use borrow.Author.Tests.{lt-ltb, le-ltb, le-leb, lt-leb}
@@ -75,7 +75,8 @@ mark-not (suc k) m (suc i) h l =
 -- ---- runs of marks
 
 -- a word is that of a test where it answers the test mark by mark
-pub marks-are : (width m : ℕ) (p : ℕ → Bool) → m < 2 ^ width → ((i : ℕ) → i < width → mark m i ≡ p i) → m ≡ marksOf width p
+pub marks-are : (width m : ℕ) (p : ℕ → Bool) → m < 2 ^ width → ((i : ℕ) → i < width → mark m i ≡ p i)
+    → m ≡ marksOf width p
 marks-are width m p h same =
     mark-ext width m (marksOf width p) h (marksOf-lt width p) (λ i l. same i l ∙ sym (mark-marksOf width p i l))
 
@@ -85,7 +86,8 @@ marks-same width p q same =
     marks-are width (marksOf width p) q (marksOf-lt width p) (λ i l. mark-marksOf width p i l ∙ same i l)
 
 -- answers past n that are all no need not be asked
-pub marks-cut : (width n : ℕ) (p : ℕ → Bool) → n ≤ width → ((i : ℕ) → n ≤ i → p i ≡ false) → marksOf n p ≡ marksOf width p
+pub marks-cut : (width n : ℕ) (p : ℕ → Bool) → n ≤ width → ((i : ℕ) → n ≤ i → p i ≡ false)
+    → marksOf n p ≡ marksOf width p
 marks-cut width n p h none =
     marks-are width (marksOf n p) p (lt-of-lt-of-le (marksOf-lt n p) (pow-mono h)) (λ i l. go i (decLt i n))
   where
@@ -130,7 +132,8 @@ pub below-is : (width end : ℕ) → end ≤ width → 2 ^ end - 1 ≡ marksBelo
 unfolding marksBelow
 below-is width end h =
     sym (ones end)
-    ∙ marks-are width (marksOf end (λ i. true)) (λ i. ltb i end) (lt-of-lt-of-le (marksOf-lt end (λ i. true)) (pow-mono h))
+    ∙ marks-are width (marksOf end (λ i. true)) (λ i. ltb i end)
+    (lt-of-lt-of-le (marksOf-lt end (λ i. true)) (pow-mono h))
     (λ i l. go i (decLt i end))
   where
     go : (i : ℕ) → Dec (i < end) → mark (marksOf end (λ i. true)) i ≡ ltb i end
@@ -140,7 +143,8 @@ below-is width end h =
 -- and more marks than the word has are all of them
 pub below-all : (width end : ℕ) → width ≤ end → 2 ^ width - 1 ≡ marksBelow width end
 unfolding marksBelow
-below-all width end h = sym (ones width) ∙ marks-same width (λ i. true) (λ i. ltb i end) (λ i l. sym (lt-ltb i end (omega arith)))
+below-all width end h =
+    sym (ones width) ∙ marks-same width (λ i. true) (λ i. ltb i end) (λ i l. sym (lt-ltb i end (omega arith)))
 
 -- a run is what lies below its end and not below its start
 pub between-is : (width start end : ℕ)

@@ -111,7 +111,8 @@ length-written m at bs = go (inside m at (length bs))
     go false = refl
 
 -- a part of the memory that came back as bs is a write of bs
-pub part-written : (m bs : List ℕ) (at n : ℕ) → n ≡ length bs → at + length bs ≤ length m → putMid at n m bs ≡ written m at bs
+pub part-written : (m bs : List ℕ) (at n : ℕ) → n ≡ length bs → at + length bs ≤ length m
+    → putMid at n m bs ≡ written m at bs
 part-written m bs at n e h =
     rw (e, drop-drop (length bs) at m)
     (sym (written-inside m at bs h ∙ sets-eq bs m at h ∙ append-assoc (take at m) bs (drop (at + length bs) m)))
@@ -131,7 +132,8 @@ copy-over s d l e h =
 -- ---- a run of stores
 
 -- up to its end, and from there on
-pub take-sets : (m vs : List ℕ) (at : ℕ) → at + length vs ≤ length m → take (at + length vs) (sets m at vs) ≡ take at m ++ vs
+pub take-sets : (m vs : List ℕ) (at : ℕ) → at + length vs ≤ length m
+    → take (at + length vs) (sets m at vs) ≡ take at m ++ vs
 take-sets m vs at h =
     let fits : at ≤ length m = omega arith in
     ap (take (at + length vs)) (sets-eq vs m at h)
@@ -151,7 +153,8 @@ pub sets-append : (m a b : List ℕ) (at : ℕ) → sets m at (a ++ b) ≡ sets 
 sets-append m [] b at = ap (λ (n : ℕ). sets m n b) (sym (add-zero at))
 sets-append m (x ∷ a) b at =
     sets-append (set m at x) a b (suc at)
-    ∙ ap (λ (n : ℕ). sets (sets (set m at x) (suc at) a) n b) (sym (add-suc at (length a) ∙ sym (suc-add at (length a))))
+    ∙ ap (λ (n : ℕ). sets (sets (set m at x) (suc at) a) n b)
+    (sym (add-suc at (length a) ∙ sym (suc-add at (length a))))
 
 -- the same of what two calls leave
 pub wrote : (m m₁ a : List ℕ) (at : ℕ) → m₁ ≡ written m at a → at + length a ≤ length m → m₁ ≡ sets m at a

@@ -1,5 +1,5 @@
-// Bytes that a caller lends: writing into a memory, all of it where it lies inside, else nothing; the first bytes of a slice;
-// numbers as bytes. Assumes nothing. It promises the whole memory as it is then (specs/Octets.antt).
+// Bytes that a caller lends: writing into a memory, all of it where it lies inside, else nothing; the first bytes of a
+// slice; numbers as bytes. Assumes nothing. It promises the whole memory as it is then (specs/Octets.antt).
 ghost use mathlib.Core.Path.{_≡_};
 ghost use Prim.Native.Nat.{_≤_};
 ghost use lib.ListN.{length, set, take};

@@ -101,11 +101,12 @@ module _ (w : ℕ) (pos : 0 < w) where
       → (distance w start n < count) × (n ≡ advance w start (distance w start n))
   range-in start count n l h e = (ltb-true _ _ e, sym (advance-distance start n l h))
 
-  -- The i-th number from `base` on is in a range that starts d past `base`: it lies in the run of `count` from d on, or in what of
-  -- that run comes round to `base`.
+  -- The i-th number from `base` on is in a range that starts d past `base`: it lies in the run of `count` from d on, or
+  -- in what of that run comes round to `base`.
   pub range-from : (base start count i : ℕ) → base < w → start < w → count ≤ w → i < w
       → inRange w start count (advance w base i)
-      ≡ ((leb (distance w base start) i && ltb i (distance w base start + count)) || ltb (i + w) (distance w base start + count))
+      ≡ ((leb (distance w base start) i && ltb i (distance w base start + count))
+      || ltb (i + w) (distance w base start + count))
   unfolding advance
   range-from base start count i b s c h = go (decLe d i)
     where

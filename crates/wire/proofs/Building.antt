@@ -1,6 +1,5 @@
--- A frame built in a slot, message by message: after each one the slot starts with the frame of the messages so far, and
--- from the frame's end on it is as it was.
--- Assumes nothing.
+-- A frame built in a slot, message by message: after each one the slot starts with the frame of the messages so far,
+-- and from the frame's end on it is as it was. Assumes nothing.
 use mathlib.Core.Path.{_≡_, refl, sym, ap, _∙_}
 use mathlib.Core.Bool.{true, false, and-true, and-false, and-eq-true-iff}
 use mathlib.Core.List.{List, [], _∷_, _++_, append-assoc}
@@ -76,7 +75,8 @@ module _ (x : Message) where
   unfolding laid lastAt
   laid-more before m [] =
       ap (λ (r : List ℕ). r ++ added (length before + length (messageHead m 0 ++ m .bytes)))
-      (set-behind before (messageHead m 0 ++ m .bytes) 23 1 ∙ ap (λ (r : List ℕ). before ++ r) (trailing-set m (m .bytes)))
+      (set-behind before (messageHead m 0 ++ m .bytes) 23 1
+      ∙ ap (λ (r : List ℕ). before ++ r) (trailing-set m (m .bytes)))
       ∙ ap (λ (u : ℕ). (before ++ (messageHead m 1 ++ m .bytes)) ++ added u) (length-laid-one (length before) m)
       ∙ simp append-assoc
   laid-more before m (n ∷ ms) =
@@ -106,13 +106,20 @@ module _ (x : Message) where
 
   length-added : (used : ℕ) → used + length (added used) ≡ endOf (nextHeader used) x
   length-added used =
-      omega (arith, length-append (gapAt used) (messageHead x 0 ++ x .bytes), length-gap used, next-after used, length-last x 0)
+      omega (
+        arith,
+        length-append (gapAt used) (messageHead x 0 ++ x .bytes),
+        length-gap used,
+        next-after used,
+        length-last x 0,
+      )
 
 -- ---- in a slot
 
 pub room-slot : (slot : List ℕ) (size : ℕ) → roomFor slot size ≡ true → size ≤ length slot
 unfolding roomFor
-room-slot slot size e = leb-true size (length slot) (and-eq-true-iff (leb size (length slot)) (leb size frameMost) .0 e .0)
+room-slot slot size e =
+    leb-true size (length slot) (and-eq-true-iff (leb size (length slot)) (leb size frameMost) .0 e .0)
 
 -- within a frame's length only the slot decides; past it there is no room
 pub room-by-slot : (slot : List ℕ) (size : ℕ) → size ≤ frameMost → leb size (length slot) ≡ roomFor slot size
@@ -147,7 +154,9 @@ module _ (slot : List ℕ) (to from num : ℕ) (m : Message) (room : roomFor slo
 
   pub first-built : take (endOf 10 m) (firstMessage slot to from num m) ≡ frameOf to from num (m ∷ [])
   unfolding frameOf laid first
-  first-built = rw (stored, ← length-first) (ap (λ (n : ℕ). take n (sets slot 0 first)) (sym (zero-add (length first))) ∙ take-sets slot first 0 fits)
+  first-built =
+      rw (stored, ← length-first)
+      (ap (λ (n : ℕ). take n (sets slot 0 first)) (sym (zero-add (length first))) ∙ take-sets slot first 0 fits)
 
   pub first-beyond : drop (endOf 10 m) (firstMessage slot to from num m) ≡ drop (endOf 10 m) slot
   first-beyond = rw (stored, ← length-first, ← zero-add (length first)) (drop-sets slot first 0 fits)
@@ -186,14 +195,16 @@ module _ (slot : List ℕ) (to from num : ℕ) (m : Message) (ms : List Message)
         room-slot slot (endOf (nextHeader (length (frameOf to from num (m ∷ ms)))) x) room,
       )
 
-  placed : nextMessage slot (length (frameOf to from num (m ∷ ms))) (lastAt 10 (m ∷ ms)) x ≡ sets marked used (added x used)
+  placed : nextMessage slot (length (frameOf to from num (m ∷ ms))) (lastAt 10 (m ∷ ms)) x
+      ≡ sets marked used (added x used)
   unfolding nextMessage marked used built last
   placed = rw room
 
   front-marked : take used marked ++ added x used ≡ frameOf to from num ((m ∷ ms) ++ (x ∷ []))
   unfolding frameOf marked used built last frameHead little
   front-marked =
-      ap (λ (r : List ℕ). r ++ added x used) (take-set-lt used slot (last + 23) 1 before-end ∙ ap (λ (r : List ℕ). set r (last + 23) 1) starts)
+      ap (λ (r : List ℕ). r ++ added x used) (take-set-lt used slot (last + 23) 1 before-end
+      ∙ ap (λ (r : List ℕ). set r (last + 23) 1) starts)
       ∙ ap (λ (u : ℕ). set built (last + 23) 1 ++ added x u) used-is
       ∙ laid-more x (frameHead to from num 0 0 1) m ms
 

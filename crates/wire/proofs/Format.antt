@@ -1,8 +1,8 @@
--- Laws of the format: how many messages a transaction takes, the next header's offset, and the lengths of what is laid out.
--- Assumes nothing.
+-- Laws of the format: how many messages a transaction takes, the next header's offset, and the lengths of what is laid
+-- out. Assumes nothing.
 use mathlib.Core.Path.{_≡_, refl, sym, _∙_, ap}
 use mathlib.Core.List.{List, [], _∷_, _++_, append-assoc}
-use Prim.Native.Nat.{ℕ, zero, suc, _+_, _-_, _*_, _/_, _^_, _≤_, _<_}
+use Prim.Native.Nat.{ℕ, zero, suc, _+_, _-_, _*_, _/_, _≤_, _<_}
 use native.Mathlib.Omega.{arith}
 use borrow.Author.Tests.{lt-ltb, le-ltb, ne-eqb}
 use lib.ListN.{length, length-append, length-replicate}

@@ -1,5 +1,5 @@
--- Laws of reading a frame: the heading, each refusal where its test says so, and what a frame that is not refused reads as.
--- Assumes nothing.
+-- Laws of reading a frame: the heading, each refusal where its test says so, and what a frame that is not refused reads
+-- as. Assumes nothing.
 use mathlib.Core.Path.{_≡_, refl, sym, ap, _∙_}
 use mathlib.Core.Logic.{_≢_}
 use mathlib.Core.Bool.{Bool, true, false, cond, true≢false}
@@ -135,7 +135,8 @@ headed f n at ms e = go (decLe (dataEnd f at) (length f))
     go (yes h) = by (follows (field f (at + 23) 1)) refl (rw (le-leb (dataEnd f at) (length f) h) at e)
       where
         by : (b : Bool) → follows (field f (at + 23) 1) ≡ b
-            → cond (follows (field f (at + 23) 1)) (prepend (messageAt f at) (messagesFrom n f (nextHeader (dataEnd f at))))
+            → cond (follows (field f (at + 23) 1))
+            (prepend (messageAt f at) (messagesFrom n f (nextHeader (dataEnd f at))))
             (some (messageAt f at ∷ [])) ≡ some ms
             → Headed f at n ms
         by false z q =

@@ -73,7 +73,8 @@ message-fits f at b =
           omega (arith, length-take (field f (at + 20) 2) (drop (at + 24) f), field-lt f (at + 20) 2 b);
     }
 
-pub messages-fit : (n : ℕ) (f : List ℕ) (at : ℕ) (ms : List Message) → Bytes f → messagesFrom n f at ≡ some ms → AllFit ms
+pub messages-fit : (n : ℕ) (f : List ℕ) (at : ℕ) (ms : List Message) → Bytes f
+    → messagesFrom n f at ≡ some ms → AllFit ms
 messages-fit zero f at ms b e = absurd (unread f at ms e)
 messages-fit (suc n) f at ms b e =
     all (headed f n at ms e) (λ rest q. messages-fit n f (nextHeader (dataEnd f at)) rest b q)
@@ -126,8 +127,16 @@ module _ (before : List ℕ) (m : Message) (f : Fits m) (trailing : ℕ) (rest :
       data-part
     where
       same : {a a′ b b′ c c′ d d′ e e′ : ℕ} {x x′ : List ℕ} → a ≡ a′ → b ≡ b′ → c ≡ c′ → d ≡ d′ → e ≡ e′ → x ≡ x′
-          → _≡_ {A = Message} (record { trans = a; completionAddress = b; completionValue = c; count = d; dataAddress = e; bytes = x })
-          (record { trans = a′; completionAddress = b′; completionValue = c′; count = d′; dataAddress = e′; bytes = x′ })
+          → _≡_ {A = Message}
+          (record { trans = a; completionAddress = b; completionValue = c; count = d; dataAddress = e; bytes = x })
+          (record {
+            trans = a′;
+            completionAddress = b′;
+            completionValue = c′;
+            count = d′;
+            dataAddress = e′;
+            bytes = x′;
+          })
       same p q r s t u = cc
 
   fits-frame : leb (dataEnd frame (length before)) (length frame) ≡ true
@@ -150,15 +159,18 @@ module _ (before : List ℕ) (m : Message) (f : Fits m) (trailing : ℕ) (rest :
 -- ---- messages, one after another
 
 -- all messages that are laid out behind some bytes are read from there on
-pub messages-back : (k : ℕ) (before : List ℕ) (m : Message) (ms : List Message) → length (m ∷ ms) ≤ k → Fits m → AllFit ms
+pub messages-back : (k : ℕ) (before : List ℕ) (m : Message) (ms : List Message) → length (m ∷ ms) ≤ k
+    → Fits m → AllFit ms
     → messagesFrom k (before ++ laid (length before) (m ∷ ms)) (length before) ≡ some (m ∷ ms)
 unfolding laid frame front follows
 messages-back zero before m ms h f fs = absurd (omega arith)
 messages-back (suc k) before m [] h f fs =
-    ap (λ (r : List ℕ). messagesFrom (suc k) (before ++ (messageHead m 0 ++ r)) (length before)) (sym (append-nil (m .bytes)))
+    ap (λ (r : List ℕ). messagesFrom (suc k) (before ++ (messageHead m 0 ++ r)) (length before))
+    (sym (append-nil (m .bytes)))
     ∙ is-last before m f 0 [] k (omega arith) refl
 messages-back (suc k) before m (n ∷ ms) h f fs =
-    is-more before m f 1 (gapAt (endOf (length before) m) ++ laid (nextHeader (endOf (length before) m)) (n ∷ ms)) k (n ∷ ms)
+    is-more before m f 1 (gapAt (endOf (length before) m) ++ laid (nextHeader (endOf (length before) m)) (n ∷ ms)) k
+    (n ∷ ms)
     (omega arith) refl
     (ap (λ (a : ℕ). messagesFrom k (before ++ laid (length before) (m ∷ (n ∷ ms))) a) (sym (length-passed before m))
     ∙ ap (λ (r : List ℕ). messagesFrom k r (length (passed before m))) (laid-passed before m n ms)
@@ -264,7 +276,8 @@ module _ (to from num start count : ℕ) (to-fits : to < frameSpace) (from-fits 
   ack-acknowledges n = rw (ack-start, ack-count) (go count)
     where
       go : (k : ℕ) → inRange frameSpace (cond (eqb k 0) 0 start) k n ≡ inRange frameSpace start k n
-      go zero = rw (le-ltb (distance frameSpace 0 n) 0 (omega arith), le-ltb (distance frameSpace start n) 0 (omega arith))
+      go zero =
+          rw (le-ltb (distance frameSpace 0 n) 0 (omega arith), le-ltb (distance frameSpace start n) 0 (omega arith))
       go (suc k) = rw (ne-eqb (suc k) 0 (omega arith))
 
   -- it reads as a frame with no messages

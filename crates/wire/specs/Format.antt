@@ -1,5 +1,5 @@
--- The frame format: what reading and writing share. A frame is a list of bytes: a frame header of 10 bytes, then messages,
--- each a message header of 24 bytes and its data.
+-- The frame format: what reading and writing share. A frame is a list of bytes: a frame header of 10 bytes, then
+-- messages, each a message header of 24 bytes and its data.
 use Prim.Native.Nat.{ℕ, _+_, _-_, _*_, _/_, _^_}
 use mathlib.Core.Bool.{cond}
 use mathlib.Core.List.{List}

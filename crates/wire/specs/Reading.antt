@@ -32,7 +32,8 @@ flags f = field f 9 1
 unfoldable pub addressed : ℕ → ℕ → List ℕ → Bool
 addressed own peer f = eqb (destination f) own && eqb (source f) peer
 
--- Whether a frame acknowledges the number n: one of the ackCount numbers from ackStart on, and none where ackCount is 0.
+-- Whether a frame acknowledges the number n: one of the ackCount numbers from ackStart on, and none where ackCount is
+-- 0.
 unfoldable pub acknowledges : List ℕ → ℕ → Bool
 acknowledges f n = inRange frameSpace (ackStart f) (ackCount f) n
 
@@ -59,8 +60,8 @@ prepend m none = none
 prepend m (some ms) = some (m ∷ ms)
 
 -- The messages from the header at an offset on; none where a header or its data passes the frame's end. (A header that
--- passes the end has the end of its data past it too.) Each message takes 24 bytes or more, so that as many turns as the
--- frame has bytes are enough.
+-- passes the end has the end of its data past it too.) Each message takes 24 bytes or more, so that as many turns as
+-- the frame has bytes are enough.
 unfoldable pub messagesFrom : ℕ → List ℕ → ℕ → Option (List Message)
 messagesFrom zero f at = none
 messagesFrom (suc turns) f at =
@@ -79,8 +80,8 @@ abbrev pub orPassesEnd : Option (List Message) → Read
 orPassesEnd none = bad 5
 orPassesEnd (some ms) = good ms
 
--- Refusals 1 to 4 in their order, which the frame's length and header decide; 0 for none. `ids` says whether the frame's two
--- IDs are the expected ones.
+-- Refusals 1 to 4 in their order, which the frame's length and header decide; 0 for none. `ids` says whether the
+-- frame's two IDs are the expected ones.
 unfoldable pub headingOf : Bool → List ℕ → ℕ
 headingOf ids f =
     cond (ltb (length f) 10) 1
@@ -88,7 +89,8 @@ headingOf ids f =
     (cond (not ids) 3
     (cond (ltb 1 (flags f)) 4 0)))
 
--- The refusals in their order, 1 to 4 and then 5. A clear flag means no messages, whatever bytes stand behind the header.
+-- The refusals in their order, 1 to 4 and then 5. A clear flag means no messages, whatever bytes stand behind the
+-- header.
 unfoldable pub readFrame : Bool → List ℕ → Read
 readFrame ids f =
     cond (ltb 0 (headingOf ids f)) (bad (headingOf ids f))

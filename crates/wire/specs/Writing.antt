@@ -1,5 +1,5 @@
--- Writing a frame: its header, its messages with the gaps between them, and the acknowledgement frame; and what building a
--- frame message by message does to the slot it is built in.
+-- Writing a frame: its header, its messages with the gaps between them, and the acknowledgement frame; and what
+-- building a frame message by message does to the slot it is built in.
 use Prim.Native.Nat.{ℕ, _+_, _-_}
 use mathlib.Core.Bool.{Bool, cond, _&&_}
 use mathlib.Core.List.{List, [], _∷_, _++_}
@@ -17,7 +17,8 @@ frameHead to from num start count flag =
 -- A message header with its trailing byte. Unused fields are zero.
 unfoldable pub messageHead : Message → ℕ → List ℕ
 messageHead m trailing =
-    little 4 (m .trans) ++ (little 4 (m .completionAddress) ++ (little 4 (m .completionValue) ++ (little 2 (m .count) ++ (little 2 0 ++
+    little 4 (m .trans) ++ (little 4 (m .completionAddress) ++ (little 4 (m .completionValue) ++
+    (little 2 (m .count) ++ (little 2 0 ++
     (little 4 (m .dataAddress) ++ (little 2 (length (m .bytes)) ++ (little 1 0 ++ little 1 trailing)))))))
 
 -- Where the data of a message ends whose header stands at an offset.
@@ -44,8 +45,8 @@ flagsFor (m ∷ ms) = 1
 unfoldable pub frameOf : ℕ → ℕ → ℕ → List Message → List ℕ
 frameOf to from num ms = frameHead to from num 0 0 (flagsFor ms) ++ laid 10 ms
 
--- An acknowledgement frame: no messages, and `count` numbers acknowledged from `start` on. Where it acknowledges none, the start is
--- written 0.
+-- An acknowledgement frame: no messages, and `count` numbers acknowledged from `start` on. Where it acknowledges none,
+-- the start is written 0.
 unfoldable pub ackFrame : ℕ → ℕ → ℕ → ℕ → ℕ → List ℕ
 ackFrame to from num start count = frameHead to from num (cond (eqb count 0) 0 start) count (flagsFor [])
 

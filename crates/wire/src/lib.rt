@@ -1,6 +1,6 @@
-// The wire format: its types, and where the next header goes. Assumes nothing. It promises specs/Format.antt; what a frame's
-// bytes mean is specs/Reading.antt and specs/Writing.antt, that what is written reads back is proofs/RoundTrip.antt, and the
-// crates wire_read, wire_headers and wire_write have the code.
+// The wire format: its types, and where the next header goes. Assumes nothing. It promises specs/Format.antt; what a
+// frame's bytes mean is specs/Reading.antt and specs/Writing.antt, that what is written reads back is
+// proofs/RoundTrip.antt, and the crates wire_read, wire_headers and wire_write have the code.
 use seq::FrameNo;
 use seq::TransNo;
 ghost use mathlib.Core.Path.{_≡_};
@@ -34,7 +34,8 @@ pub struct FrameHeader {
 // The last offset of the form 10 + 8k that a word holds.
 const LAST_HEADER: usize = 18446744073709551610;
 
-// Message headers stand at offsets of the form 10 + 8k: the first of these that is not before end. 0 where no word holds it.
+// Message headers stand at offsets of the form 10 + 8k: the first of these that is not before end. 0 where no word
+// holds it.
 pub fn next_header(end: usize) -> usize
     ensures { λ r. ⌜ r ≡ headerAfter end ⌝ }
 {
@@ -47,8 +48,8 @@ pub fn next_header(end: usize) -> usize
     FRAME_HEADER + (end - FRAME_HEADER + 7) / 8 * 8
 }
 
-// The header of a message: its transaction's number, where its completion goes and what that writes, how many data messages
-// it has, and the address of this one's data. The data's length is that of a slice beside it.
+// The header of a message: its transaction's number, where its completion goes and what that writes, how many data
+// messages it has, and the address of this one's data. The data's length is that of a slice beside it.
 pub struct MessageHeader {
     pub trans: TransNo,
     pub completion_address: u32,

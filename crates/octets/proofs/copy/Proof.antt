@@ -34,7 +34,9 @@ same-length-3 : tie.Need-same-length-3
 same-length-3 c = search needs
 
 returns-3 : tie.Need-returns-3
-returns-3 c = copy-over _ _ _ (c .before .before .before .before .before .before .before .before .pre) (c .before .before .copy .ensures .1)
+returns-3 c =
+    let before = c .before .before .before .before .before .before .before .before in
+    copy-over _ _ _ (before .pre) (c .before .before .copy .ensures .1)
 
 pub copy-spec : {M : Type 1} → statement M
 copy-spec =

@@ -24,7 +24,8 @@ slice-aggregate-copy-2 : tie.Need-slice-aggregate-copy-2
 slice-aggregate-copy-2 c =
     let k = c .before .before .copy in
     let s = c .before .before .before .before .before .before .args .src .now in
-    k .ensures .0 ∙ sym (ap length {y = s} (front-of-copy (k .result) s (k .last .1 .0) _ (k .ensures .0) (k .ensures .1)))
+    k .ensures .0
+    ∙ sym (ap length {y = s} (front-of-copy (k .result) s (k .last .1 .0) _ (k .ensures .0) (k .ensures .1)))
 
 copy-requires-2 : tie.Need-copy-requires-2
 copy-requires-2 c κs =
@@ -39,11 +40,12 @@ same-length c = search needs
 
 returns : tie.Need-returns
 returns c =
-    let k = c .before .before .before .before .before .before .copy in
-    let a = c .before .before .before .before .before .before .before .before .before .before .args in
+    let copied = c .before .before .before .before .before .before in
+    let k = copied .copy in
+    let entry = copied .before .before .before .before in
+    let a = entry .args in
     let e = front-of-copy (k .result) (a .src .now) (k .last .1 .0) _ (k .ensures .0) (k .ensures .1) in
-    copy-over (a .src .now) (a .dst .now) _
-    (c .before .before .before .before .before .before .before .before .before .before .pre .0)
+    copy-over (a .src .now) (a .dst .now) _ (entry .pre .0)
     (rw e at (c .before .before .copy2 .ensures .1))
 
 pub copy-short-spec : {M : Type 1} → statement M

@@ -14,16 +14,20 @@ use Rattle.octets.proofs.copy.Reads as copy-reads
 
 returns : tie.Need-returns
 returns c =
-    let a = c .before .before .before .args in
-    (sym (inside-false (a .memory .now) (a .at) _ (omega arith)), sym (written-outside (a .memory .now) (a .at) _ (omega arith)))
+    let a = c .before .before .before .args in (
+      sym (inside-false (a .memory .now) (a .at) _ (omega arith)),
+      sym (written-outside (a .memory .now) (a .at) _ (omega arith)),
+    )
 
 sub-if2 : tie.Need-sub-if2
 sub-if2 c = search needs
 
 returns-2 : tie.Need-returns-2
 returns-2 c =
-    let a = c .before .before .before .before .args in
-    (sym (inside-false (a .memory .now) (a .at) _ (omega arith)), sym (written-outside (a .memory .now) (a .at) _ (omega arith)))
+    let a = c .before .before .before .before .args in (
+      sym (inside-false (a .memory .now) (a .at) _ (omega arith)),
+      sym (written-outside (a .memory .now) (a .at) _ (omega arith)),
+    )
 
 add-end : tie.Need-add-end
 add-end c = search needs
@@ -49,7 +53,8 @@ returns-3 c =
     let fits : a .at + length (a .src .now) ≤ length (a .memory .now) = omega arith in (
       sym (inside-true (a .memory .now) (a .at) _ fits),
       rw (c .before .before .copy .ensures)
-          (part-written (a .memory .now) (a .src .now) (a .at) (a .at + length (a .src .now) - a .at) (omega arith) fits),
+          (part-written (a .memory .now) (a .src .now) (a .at) (a .at + length (a .src .now) - a .at)
+          (omega arith) fits),
     )
 
 pub write-spec : {M : Type 1} → statement M
