@@ -1,6 +1,5 @@
 -- `wire_read::u32_in`: a field of four bytes, byte by byte.
 -- Assumes nothing.
-use native.Mathlib.Omega.{arith}
 use Rattle.octets.proofs.Octets.{field-4}
 use borrow.Author.Needs.{needs}
 use Rattle.wire_read.proofs.u32_in.Statement.{statement}
