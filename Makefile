@@ -61,7 +61,7 @@ $(DEMO_PROGRAMS): target/demo/%: c/demo/%.c c/demo/common.c c/demo/common.h $(IN
 bench:
 	rt check replay
 	$(MAKE) library
-	cd rust && cargo build --offline --profile bench-release -p bench --features proved
+	cd rust && cargo build --offline --locked --profile bench-release -p bench --features proved
 	target/rust/bench-release/bench-ends
 	target/rust/bench-release/bench-replay target/bin/replay
 
@@ -70,10 +70,10 @@ bench:
 soak:
 	rt check replay
 	$(MAKE) library calls
-	cd rust && cargo test --offline --release -p logwhisker --test streams -- --include-ignored --nocapture
+	cd rust && cargo test --offline --locked --release -p logwhisker --test streams -- --include-ignored --nocapture
 	cd rust && LW_SEED=$(SEED) LW_INPUTS=12000000 LW_FRAMES=4000000 LW_LINES=20000000 LW_SCRIPTS=240 \
 		LW_LISTS=4000 LW_LONG_LISTS=10 LW_CALLS_OF_CARD=6000000 \
-		cargo test --offline --release -p logwhisker -p reference --tests
+		cargo test --offline --locked --release -p logwhisker -p reference --tests
 	@echo 'soak: all the same from seed $(SEED) on'
 
 # Puts header, static library and pkg-config file below PREFIX, with DESTDIR in front while copying: docs/C-API.md.

@@ -193,9 +193,8 @@ def determines(definition, at):
 
 
 def related(function, subject_of, relations, lets_off):
-    """Whether a relation that the function promises equates the subject. subject_of gives the subject by the name of
-    the result there; lets_off says of a relation whether its cases are all, though they are not each other's
-    contrary."""
+    """Whether a relation that the function promises equates the subject. subject_of gives it by the name of the
+    result there; lets_off says of a relation whether its cases are all, though they are not each other's contrary."""
     for r, name, arguments in function.relations():
         for at, argument in enumerate(arguments):
             if argument in (subject_of(r), f"now {subject_of(r)}") and name in relations:
