@@ -13,6 +13,7 @@ use reference::rng::Rng;
 use reference::script::{Wild, of_list};
 use reference::settings::{count_from_env, number_from_env};
 use reference::simulator::{Profile, come_round, simulate};
+use std::collections::BTreeSet;
 use std::io::{Read, Write};
 use std::thread;
 
@@ -94,9 +95,25 @@ fn stored_script() {
 
 #[test]
 fn lines_of_any_kind() {
+    let mut met = BTreeSet::new();
     for seed in seeds() {
-        assert_same(&wild(seed));
+        met.extend(assert_same(&wild(seed)).lines().map(beginning_of));
     }
+    // Without these an agreement could be one about next to nothing. 14 is the replay's.
+    let refusals = (1..=13).chain(20..=27).map(|number| format!("R {number}"));
+    let others = [
+        "?", "ok", "t", "f", "slot", "lent", "A", "G", "N", "L", "own",
+    ];
+    let wanted = refusals.chain(others.map(String::from));
+    let missed: Vec<String> = wanted.filter(|wanted| !met.contains(wanted)).collect();
+    assert!(missed.is_empty(), "not met: {missed:?}");
+}
+
+/// What kind of answer a line is: its first word, and of a refusal the number too.
+fn beginning_of(line: &str) -> String {
+    let words = if line.starts_with('R') { 2 } else { 1 };
+    let words: Vec<&str> = line.split(' ').take(words).collect();
+    words.join(" ")
 }
 
 #[test]
