@@ -233,7 +233,7 @@ static void build(struct sender *sender)
 
 static void read_all(struct sender *sender)
 {
-    uint8_t datagram[LONGEST_DATAGRAM];
+    uint8_t datagram[RECEIVED];
 
     for (;;) {
         const ssize_t length = recv(sender->socket, datagram, sizeof datagram, 0);

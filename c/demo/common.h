@@ -23,6 +23,8 @@ enum {
     /* A frame, its two bytes, and the headers of UDP and IP fill 1,500 bytes. */
     FRAME_LIMIT = 1470,
     LONGEST_DATAGRAM = PREFIX + FRAME_LIMIT,
+    /* Room for any frame that is read, and a byte more: one that is too long is seen to be. */
+    RECEIVED = PREFIX + LW_LONGEST_FRAME + 1,
 
     /* The host's memory is parted into blocks: each transaction writes into one, and
      * its completion into the block's last bytes. There are twice as many blocks as

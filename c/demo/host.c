@@ -77,7 +77,7 @@ static void show_datagram(const uint8_t *datagram, size_t length)
 /* Takes all datagrams that have arrived; false if there was none. */
 static bool receive_all(struct receiver *receiver)
 {
-    uint8_t datagram[LONGEST_DATAGRAM];
+    uint8_t datagram[RECEIVED];
     struct sockaddr_in from;
     bool any = false;
 
