@@ -419,7 +419,7 @@ fn frame_for(words: &[u64; HOST_WORDS], memory: usize, rng: &mut Rng) -> Vec<u8>
     let mut frame = write_frame(own, peer, number, &messages);
     match rng.below(120) {
         0 => frame.truncate(rng.below(FRAME_HEADER)),
-        1 => frame.resize(LONGEST_FRAME + rng.between(1, 9) as usize, 0),
+        1 => frame.resize(LONGEST_FRAME + rng.between(1, 9), 0),
         2 => frame[rng.below(4)] ^= 1,
         3 => frame[9] = 0,
         4..7 => {
