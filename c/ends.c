@@ -11,6 +11,7 @@
 #include "check.h"
 
 #include <ctype.h>
+#include <stdbool.h>
 #include <stdlib.h>
 #include <string.h>
 #include <sys/mman.h>
@@ -832,6 +833,15 @@ static void check_wild_hosts(void)
     end_group("hosts of any words");
 }
 
+/* As numbers: pointers that do not lie in one buffer may not be compared. */
+static bool lies_in(lw_part part, const uint8_t *buffer, size_t size)
+{
+    const uintptr_t start = (uintptr_t)part.start;
+    const uintptr_t first = (uintptr_t)buffer;
+
+    return start >= first && start - first <= size && part.length <= size - (start - first);
+}
+
 /* Cards of any words at all, lent slots of the size that their limit asks for. */
 static void check_wild_cards(void)
 {
@@ -870,8 +880,7 @@ static void check_wild_cards(void)
                 if (refusal != LW_NOT_REFUSED)
                     check_part(i, part, NULL, 0);
                 else
-                    check("part lies in the slots", i,
-                          part.start >= slots && part.start + part.length <= slots + size, 1);
+                    check("part lies in the slots", i, lies_in(part, slots, size), 1);
             }
         }
     }
