@@ -23,7 +23,8 @@ impl<'a> Chosen<'a> {
 }
 
 /// The card's end of a pair. The slots are a buffer of 64 times the frame limit, and the same
-/// ones are to be lent each time, unchanged in between.
+/// ones are to be lent each time, unchanged in between. A refused step leaves card and slots as
+/// they were; only adding writes to the slots.
 #[derive(Clone, Debug, PartialEq, Eq)]
 pub struct Card {
     words: [u64; CARD_WORDS],
@@ -99,7 +100,8 @@ impl Card {
         Refusal::check(refusal).map(|()| number)
     }
 
-    /// Takes in the acknowledgements of an arriving frame.
+    /// Takes in the acknowledgements of an arriving frame, whose messages are not looked at
+    /// further than that they fit. Refused with 1 to 5.
     pub fn read(&mut self, frame: &[u8]) -> Result<(), Refusal> {
         Refusal::check(raw::card_read(&mut self.words, frame))
     }

@@ -157,7 +157,7 @@ impl Description {
     }
 }
 
-/// The host's end of a pair.
+/// The host's end of a pair. Unless a frame is accepted, host and memory stay as they were.
 #[derive(Clone, Debug, PartialEq, Eq)]
 pub struct Host {
     words: [u64; HOST_WORDS],
