@@ -4,7 +4,9 @@ use bitmap::word32;
 use host::Open;
 use wire::MessageHeader;
 ghost use mathlib.Core.Path.{_≡_};
-ghost use Rattle.host.specs.Terms.{agrees, termsRefusal, addressRefusal, messageRefusal};
+ghost use mathlib.Core.Bool.{_&&_};
+ghost use lib.Dec.{eqb, ltb};
+ghost use Rattle.host.specs.Terms.{agrees, termsRefusal, addressRefusal, firstOf, messageRefusal};
 
 // Whether the header says what the transaction's first message said, if there was one.
 fn has_same_terms(o: Open, h: MessageHeader) -> bool
@@ -22,23 +24,34 @@ fn has_same_terms(o: Open, h: MessageHeader) -> bool
     o.value == h.completion_value
 }
 
+// Whether a message carries data though it is a bare one.
+fn is_bare_with_data(h: MessageHeader, len: u16) -> bool
+    ensures { λ r. ⌜ r ≡ eqb (h .count) 0 && ltb 0 len ⌝ }
+{
+    if h.count == 0 {
+        return 0 < len;
+    }
+    false
+}
+
 // Refusals 7 to 10 of a message whose transaction lies d past the lowest one that is not complete.
 fn terms_refusal(d: u32, closed: u32, o: Open, h: MessageHeader, len: u16) -> u8
     ensures { λ r. ⌜ r ≡ termsRefusal d closed o h len ⌝ }
 {
+    let is_closed = word32::is_marked(closed, d);
+    let is_same = has_same_terms(o, h);
+    let is_laden = is_bare_with_data(h, len);
     if 32 <= d {
         return refusal::TRANSACTION_OUTSIDE_WINDOW;
     }
-    if word32::is_marked(closed, d) {
+    if is_closed {
         return refusal::TRANSACTION_CLOSED;
     }
-    if !has_same_terms(o, h) {
+    if !is_same {
         return refusal::TRANSACTION_DIFFERS;
     }
-    if h.count == 0 {
-        if 0 < len {
-            return refusal::BARE_WITH_DATA;
-        }
+    if is_laden {
+        return refusal::BARE_WITH_DATA;
     }
     0
 }
@@ -47,13 +60,25 @@ fn terms_refusal(d: u32, closed: u32, o: Open, h: MessageHeader, len: u16) -> u8
 fn address_refusal(size: usize, h: MessageHeader, len: u16) -> u8
     ensures { λ r. ⌜ r ≡ addressRefusal size h len ⌝ }
 {
-    if size < h.data_address as usize + len as usize {
+    let data_end = h.data_address as usize + len as usize;
+    let completion_end = h.completion_address as usize + 4;
+    if size < data_end {
         return refusal::DATA_OUTSIDE_MEMORY;
     }
-    if size < h.completion_address as usize + 4 {
+    if size < completion_end {
         return refusal::COMPLETION_OUTSIDE_MEMORY;
     }
     0
+}
+
+// The first of two refusals that is one.
+fn first_of(a: u8, b: u8) -> u8
+    ensures { λ r. ⌜ r ≡ firstOf a b ⌝ }
+{
+    if a == 0 {
+        return b;
+    }
+    a
 }
 
 // The first refusal of a message with len data bytes, 0 for none.
@@ -61,8 +86,6 @@ pub fn first_refusal(d: u32, closed: u32, o: Open, h: MessageHeader, len: u16, s
     ensures { λ r. ⌜ r ≡ messageRefusal d closed o h len size ⌝ }
 {
     let terms = terms_refusal(d, closed, o, h, len);
-    if terms == 0 {
-        return address_refusal(size, h, len);
-    }
-    terms
+    let addresses = address_refusal(size, h, len);
+    first_of(terms, addresses)
 }

@@ -37,9 +37,9 @@ pub fn refuse(own: u16, peer: u16, f: &[u8], stop: u8, place: u32) -> Answer
 pub fn answer_by_number(own: u16, peer: u16, f: &[u8], number: FrameNo, d: u16) -> Answer
     ensures { λ r. ⌜ r ≡ numberAnswered own peer (now (f .entry)) (number .0) d ⌝ }
 {
-    let cut = wire_layout::refusal_of(f, own, peer);
-    if cut != 0 {
-        return refusing(cut, 0);
+    let layout = wire_layout::refusal_of(f, own, peer);
+    if layout != 0 {
+        return refusing(layout, 0);
     }
     if 32768 <= d {
         return again(number);

@@ -11,7 +11,7 @@ cast-t5 : tie.Need-cast-t5
 cast-t5 c = search needs
 
 returns : tie.Need-returns
-returns c = rw (eq-eqb _ _ (c .if1 .taken))
+returns c = rw (eq-eqb _ 1 (c .if1 .taken))
 
 cast-t8 : tie.Need-cast-t8
 cast-t8 c = search needs

@@ -1,6 +1,11 @@
 -- `host_apply::take_effect`: memory and the entry, by what the entry was.
 -- Assumes nothing.
-use mathlib.Core.Path.{_∙_}
+use mathlib.Core.Path.{_≡_, ap, _∙_}
+use mathlib.Core.Bool.{Bool}
+use Rattle.wire.specs.declared.MessageHeader.{MessageHeader}
+use Rattle.host.specs.declared.Open.{Open}
+use Rattle.host.specs.Transactions.{fills}
+use Rattle.host.specs.Host.{effect}
 use borrow.Author.Needs.{needs}
 use Rattle.host_apply.proofs.take_effect.Statement.{statement}
 use Rattle.host_apply.proofs.take_effect.Tie as tie
@@ -11,6 +16,10 @@ use Rattle.host_verdict.proofs.completes.Reads as completes-reads
 use Rattle.host_verdict.proofs.left_in.Reads as left-in-reads
 use Rattle.host_words.proofs.entry.Reads as entry-reads
 use Rattle.host_update.proofs.put_entry.Reads as put-entry-reads
+
+-- whether it completes its transaction, by the entry that was read
+by-entry : (done : Bool) (o x : Open) (h : MessageHeader) → done ≡ fills o h → o ≡ x → done ≡ fills x h
+by-entry done o x h e d = e ∙ ap (λ (y : Open). fills y h) d
 
 entry-requires : tie.Need-entry-requires
 entry-requires c κs = search needs
@@ -39,7 +48,8 @@ returns c =
     let wrote = made .before .before .before .before in
     let was = wrote .before .before .before in (
       λ l. c .before .before .put-entry .ensures .1 l ∙ rw (made .left-in .ensures, was .entry .ensures),
-      wrote .write-message .ensures ∙ rw (wrote .before .completes .ensures, was .entry .ensures),
+      wrote .write-message .ensures
+          ∙ ap (effect _ _) (by-entry _ _ _ _ (wrote .before .completes .ensures) (was .entry .ensures)),
     )
 
 pub take-effect-spec : {M : Type 1} → statement M

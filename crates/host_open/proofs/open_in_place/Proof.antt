@@ -1,6 +1,7 @@
 -- `host_open::open_in_place`: opening by value, packed.
 -- Assumes nothing.
-use mathlib.Core.Path.{refl, _∙_}
+use mathlib.Core.Path.{refl, ap, _∙_}
+use Rattle.host.specs.declared.Opened.{Opened}
 use borrow.Author.Needs.{needs}
 use Rattle.host_open.proofs.open_in_place.Statement.{statement}
 use Rattle.host_open.proofs.open_in_place.Tie as tie
@@ -24,7 +25,13 @@ same-length c = search needs
 returns-2 : tie.Need-returns-2
 returns-2 c =
     let made = c .before .before .before .before .before in
-    (λ l. rw (← made .open-pair .ensures) (c .before .before .pack .ensures .0 l, refl), λ n. absurd (n (made .before .if1 .left)))
+    let opened = made .open-pair .ensures in (
+      λ l. (
+        c .before .before .pack .ensures .0 l ∙ ap (λ (o : Opened). o .pair) opened,
+        ap (λ (o : Opened). o .refusal .number) opened,
+      ),
+      λ n. absurd (n (made .before .if1 .left)),
+    )
 
 pub open-in-place-spec : {M : Type 1} → statement M
 open-in-place-spec =

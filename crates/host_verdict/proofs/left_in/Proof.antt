@@ -1,6 +1,5 @@
 -- `host_verdict::left_in`: free where the transaction is complete.
 -- Assumes nothing.
-use mathlib.Core.Path.{_∙_}
 use borrow.Author.Needs.{needs}
 use Rattle.host_verdict.proofs.left_in.Statement.{statement}
 use Rattle.host_verdict.proofs.left_in.Tie as tie

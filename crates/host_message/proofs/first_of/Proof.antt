@@ -1,0 +1,16 @@
+-- `host_message::first_of`: the test is the definition's.
+-- Assumes nothing.
+use borrow.Author.Tests.{eq-eqb, ne-eqb}
+use Rattle.host_message.proofs.first_of.Statement.{statement}
+use Rattle.host_message.proofs.first_of.Tie as tie
+use Rattle.host_message.proofs.first_of.Reads as reads
+use Rattle.host_message.proofs.first_of.Lts as lts
+
+returns : tie.Need-returns
+returns c = rw (eq-eqb _ 0 (c .if1 .taken))
+
+returns-2 : tie.Need-returns-2
+returns-2 c = rw (ne-eqb _ 0 (c .if1 .left))
+
+pub first-of-spec : {M : Type 1} → statement M
+first-of-spec = tie.close (tie.spec returns returns-2)
