@@ -36,7 +36,7 @@ pub fn apply(words: &mut [u64], f: &[u8], memory: &mut [u8], n: u32)
     if words.len() != host_words::WORDS {
         return;
     }
-    let mut at = 10;
+    let mut at = wire::FRAME_HEADER;
     let mut i: u32 = 0;
     while i < n {
         let found = wire_read::message_at(f, at);

@@ -3,15 +3,14 @@
 use mathlib.Core.Path.{_≡_, refl, sym, _∙_, ap}
 use mathlib.Core.Logic.{inl, inr}
 use mathlib.Core.Bool.{Bool, true, false, cond}
-use mathlib.Core.List.{List, [], _∷_, _++_, append-assoc, append-nil}
-use Prim.Native.Nat.{ℕ, zero, suc, _+_, _-_, _*_, _≤_, _<_}
+use mathlib.Core.List.{List, [], _++_, append-assoc, append-nil}
+use Prim.Native.Nat.{ℕ, suc, _+_, _-_, _*_, _≤_, _<_}
 use native.Mathlib.Nat.{add-zero, zero-add}
 use native.Mathlib.Numerals.{add-one}
 use native.Mathlib.Omega.{arith}
 use lib.ListN.{length, replicate, length-append}
 use lib.Seq.{sets, length-sets}
 use Rattle.octets.proofs.Octets.{sets-append}
-use Rattle.host.specs.declared.Open.{Open}
 use Rattle.host.specs.declared.Pair.{Pair}
 use Rattle.host_describe.specs.Describing.{numberAt, entryAt, isOpen, five, openWords, openCount, headWords, PutsOpen, description}
 

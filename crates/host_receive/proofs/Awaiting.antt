@@ -47,7 +47,7 @@ use Rattle.host_words.specs.Words.{headPart, joined}
 use Rattle.host_validate.specs.declared.Validated.{Validated}
 use Rattle.host_validate.specs.Validating.{noneYet, validatedFrom, validatedOf}
 use Rattle.host_validate.proofs.Walk.{validated-short}
-use Rattle.host_apply.specs.Applying.{Applied, appliedFrom}
+use Rattle.host_apply.specs.Applying.{appliedFrom}
 use Rattle.host_refuse.specs.Refusing.{refusedWith, numberAnswered}
 use Rattle.host_number.specs.Numbering.{acceptedHead}
 use Rattle.host_receive.specs.Receiving.{Awaited}

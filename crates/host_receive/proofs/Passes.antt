@@ -5,13 +5,13 @@ use mathlib.Core.Logic.{_≢_}
 use mathlib.Core.Bool.{Bool, true, false}
 use mathlib.Core.List.{List, [], _∷_}
 use mathlib.Core.Option.{Option, none, some}
-use Prim.Native.Nat.{ℕ, zero, suc, _+_, _%_, _≤_, _<_}
+use Prim.Native.Nat.{ℕ, zero, suc, _+_, _%_, _≤_}
 use native.Mathlib.Numerals.{add-one}
 use native.Mathlib.Decide.{decLe}
 use native.Mathlib.Omega.{arith}
 use borrow.Author.Tests.{eq-eqb, ne-eqb, eqb-true, eqb-false}
 use lib.Dec.{eqb}
-use lib.ListN.{length, getD, set}
+use lib.ListN.{length, getD}
 use Rattle.octets.specs.Octets.{field}
 use Rattle.wire.specs.Format.{Message, headOf, nextHeader}
 use Rattle.wire.specs.Reading.{follows, dataEnd, messageAt, prepend, messagesFrom}
@@ -25,7 +25,7 @@ use Rattle.host.specs.Host.{effect, Tally, takeIn, fine, wrong, takeAll}
 use Rattle.host.proofs.Judging.{closes, holds}
 use Rattle.host.proofs.Receiving.{length-effect}
 use Rattle.host_validate.specs.declared.Validated.{Validated}
-use Rattle.host_validate.specs.Validating.{Progress, onward, refusedAt, passed, validatedFrom}
+use Rattle.host_validate.specs.Validating.{Progress, onward, passed, validatedFrom}
 use Rattle.host_validate.proofs.Walk.{its-verdict, validated-past, validated-stops, validated-last, validated-more}
 use Rattle.host_apply.specs.Applying.{Applied, appliedFrom}
 use Rattle.host_apply.proofs.Walk.{applied-more}

@@ -1,18 +1,18 @@
 -- Entries that a verdict does not tell apart: where nothing was received, what else an entry holds is not looked at.
 -- Assumes nothing.
-use mathlib.Core.Path.{_≡_, refl, sym, _∙_, ap}
+use mathlib.Core.Path.{_≡_, refl, sym, ap}
 use mathlib.Core.Logic.{_⊎_, inl, inr}
 use mathlib.Core.Bool.{Bool, true, false}
-use Prim.Native.Nat.{ℕ, suc}
+use Prim.Native.Nat.{ℕ}
 use native.Mathlib.Omega.{arith}
-use borrow.Author.Tests.{eq-eqb, ne-eqb, eqb-true, eqb-false}
+use borrow.Author.Tests.{eqb-false}
 use lib.Dec.{eqb}
 use Rattle.seq.specs.Ring.{distance, transSpace}
 use Rattle.wire.specs.declared.MessageHeader.{MessageHeader}
 use Rattle.host.specs.declared.Open.{Open}
 use Rattle.host.specs.declared.Verdict.{Verdict}
 use Rattle.host.specs.Terms.{free, agrees, termsRefusal, messageRefusal}
-use Rattle.host.specs.Transactions.{fills, refusing, closing, holding, decided, verdictOf}
+use Rattle.host.specs.Transactions.{fills, refusing, closing, holding, verdictOf}
 
 abbrev pub Alike : Open → Open → Type 0
 Alike a b = (a ≡ b) ⊎ ((a .received ≡ 0) × (b .received ≡ 0))

@@ -22,7 +22,6 @@ use Rattle.host.specs.Terms.{free}
 use Rattle.host.specs.Transactions.{Transactions, verdictOf, verdict, after}
 use Rattle.host.specs.Host.{transactionsOf}
 use Rattle.host_words.specs.Words.{pairOf}
-use Rattle.host_validate.specs.declared.Validated.{Validated}
 use Rattle.host_validate.specs.Validating.{
   Progress,
   noneYet,

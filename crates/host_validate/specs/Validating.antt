@@ -1,7 +1,7 @@
 -- The first pass over a frame's messages: what judging them one after another finds. Nothing is written by it. Nothing
 -- of this needs to be believed: host_receive/proofs/Passes.antt shows that both passes come to takeAll of
 -- host/specs/Host.antt.
-use Prim.Native.Nat.{ℕ, zero, suc, _+_, _%_}
+use Prim.Native.Nat.{ℕ, zero, suc, _+_}
 use mathlib.Core.Path.{_≡_}
 use mathlib.Core.Logic.{_⊎_}
 use mathlib.Core.Bool.{Bool, true, cond}

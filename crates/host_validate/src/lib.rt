@@ -145,7 +145,7 @@ fn find_apart(words: &[u64], f: &[u8], size: usize) -> Validated
     let mut closed = host_words::closed(words);
     let mut changed: u32 = 0;
     let mut counts = NONE;
-    let mut at = 10;
+    let mut at = wire::FRAME_HEADER;
     loop {
         let found = wire_read::message_at(f, at);
         match found {
@@ -185,7 +185,7 @@ fn find_kept(words: &[u64], kept: &mut [u64], f: &[u8], size: usize) -> Validate
     let mut closed = host_words::closed(words);
     let mut changed: u32 = 0;
     let mut counts = NONE;
-    let mut at = 10;
+    let mut at = wire::FRAME_HEADER;
     loop {
         let found = wire_read::message_at(f, at);
         match found {

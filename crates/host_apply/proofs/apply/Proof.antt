@@ -53,10 +53,16 @@ take-effect-requires : tie.Need-take-effect-requires Inv-loop μ-loop
 take-effect-requires c κs = search needs
 
 add-i : tie.Need-add-i Inv-loop μ-loop
-add-i c = omega (arith, c .before .before .before .before .before .before .before .before .before .before .before .before .loop-test .taken)
+add-i c =
+    let below = (let met = c .before .before .before .before .before .before in
+    met .before .before .before .before .before .before .loop-test .taken) in
+    omega (arith, below)
 
 loop-less : tie.Need-loop-less Inv-loop μ-loop
-loop-less c = omega (arith, c .before .before .before .before .before .before .before .before .before .before .before .before .loop-test .taken)
+loop-less c =
+    let below = (let met = c .before .before .before .before .before .before in
+    met .before .before .before .before .before .before .loop-test .taken) in
+    omega (arith, below)
 
 loop-again : tie.Need-loop-again Inv-loop μ-loop
 loop-again c =

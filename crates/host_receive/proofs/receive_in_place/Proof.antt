@@ -45,11 +45,12 @@ same-length c = search needs
 
 returns-2 : tie.Need-returns-2
 returns-2 c =
-    let a = c .before .before .before .before .before .before .before .before .before .before .before .args in
+    let sized = c .before .before .before .before .before .before .before in
+    let a = sized .before .before .before .before .args in
     let e = refused-heading (pairOf (a .words .now)) (a .f .now) _ _ _ (c .before .before .before .before .before .own .ensures) (c .before .before .before .peer .ensures)
     (c .before .before .heading-refusal .ensures) (a .memory .now) (c .before .if2 .taken) in
     let s = stays _ _ _ _ e in
-    (λ l. (s .0, s .1, c .refusing2 .ensures ∙ s .2), λ n. absurd (n (c .before .before .before .before .before .before .before .if1 .left)))
+    (λ l. (s .0, s .1, c .refusing2 .ensures ∙ s .2), λ n. absurd (n (sized .if1 .left)))
 
 frame-header-requires : tie.Need-frame-header-requires
 frame-header-requires c κs = search needs
@@ -61,12 +62,13 @@ returns-3 : tie.Need-returns-3
 returns-3 c =
     let flagged = c in
     let headed = flagged .before .before .before in
-    let a = headed .before .before .before .before .before .before .before .before .before .before .args in
+    let sized = headed .before .before .before .before .before .before in
+    let a = sized .before .before .before .before .args in
     let p = pairOf (a .words .now) in
     let h = framed p (a .f .now) _ _ _ (headed .before .before .before .before .own .ensures) (headed .before .before .peer .ensures)
     (headed .before .heading-refusal .ensures) (headed .if2 .left) in
     let s = stays _ _ _ _ (none-there p (a .f .now) (a .memory .now) h _ (c .before .before .frame-header .ensures) (c .if3 .taken)) in
-    (λ l. s, λ n. absurd (n (headed .before .before .before .before .before .before .if1 .left)))
+    (λ l. s, λ n. absurd (n (sized .if1 .left)))
 
 next-requires : tie.Need-next-requires
 next-requires c κs = search needs
@@ -90,7 +92,8 @@ returns-4 : tie.Need-returns-4
 returns-4 c =
     let flagged = c .before .before .before .before .before .before .before .before .before in
     let headed = flagged .before .before .before in
-    let a = headed .before .before .before .before .before .before .before .before .before .before .args in
+    let sized = headed .before .before .before .before .before .before in
+    let a = sized .before .before .before .before .args in
     let p = pairOf (a .words .now) in
     let h = framed p (a .f .now) _ _ _ (headed .before .before .before .before .own .ensures) (headed .before .before .peer .ensures)
     (headed .before .heading-refusal .ensures) (headed .if2 .left) in
@@ -101,7 +104,7 @@ returns-4 c =
     let old = not-new (p .marks) _ (sym new-is ∙ not-true _ (c .before .if4 .taken)) in
     let s = stays _ _ _ _ (answered-by-number p (a .f .now) (a .memory .now) _ _ w old) in (
       λ l. (s .0, s .1, c .answer-by-number .ensures ∙ rw (headed .before .before .before .before .own .ensures, headed .before .before .peer .ensures) (s .2)),
-      λ n. absurd (n (headed .before .before .before .before .before .before .if1 .left)),
+      λ n. absurd (n (sized .if1 .left)),
     )
 
 take-in-requires : tie.Need-take-in-requires
@@ -115,18 +118,20 @@ same-length-5 c = search needs
 
 returns-5 : tie.Need-returns-5
 returns-5 c =
-    let flagged = c .before .before .before .before .before .before .before .before .before .before .before .before .before .before .before in
+    let new = c .before .before .before .before .before .before .before in
+    let flagged = new .before .before .before .before .before .before .before .before in
     let headed = flagged .before .before .before in
-    let a = headed .before .before .before .before .before .before .before .before .before .before .args in
+    let sized = headed .before .before .before .before .before .before in
+    let a = sized .before .before .before .before .args in
     let p = pairOf (a .words .now) in
     let h = framed p (a .f .now) _ _ _ (headed .before .before .before .before .own .ensures) (headed .before .before .peer .ensures)
     (headed .before .heading-refusal .ensures) (headed .if2 .left) in
-    let away = c .before .before .before .before .before .before .before .before .before .before .before in
+    let away = new .before .before .before .before in
     let w = awaited p (a .f .now) h _ (flagged .before .before .frame-header .ensures) (flagged .if3 .left) _
     (rw (away .before .next .ensures) at (away .distance .ensures)) in
-    let new-is = rw (c .before .before .before .before .before .before .before .before .before .marks .ensures) at (c .before .before .before .before .before .before .before .before .is-new .ensures) in
-    let new = new-in (p .marks) _ (sym new-is ∙ not-false _ (c .before .before .before .before .before .before .before .if4 .left)) in
-    (λ l. c .before .before .before .before .take-in .ensures _ w (new .0) (new .1) l, λ n. absurd (n (headed .before .before .before .before .before .before .if1 .left)))
+    let new-is = rw (new .before .before .marks .ensures) at (new .before .is-new .ensures) in
+    let lies = new-in (p .marks) _ (sym new-is ∙ not-false _ (new .if4 .left)) in
+    (λ l. c .before .before .before .before .take-in .ensures _ w (lies .0) (lies .1) l, λ n. absurd (n (sized .if1 .left)))
 
 pub receive-in-place-spec : {M : Type 1} → statement M
 receive-in-place-spec =

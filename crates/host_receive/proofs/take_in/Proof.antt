@@ -34,9 +34,10 @@ same-length c = search needs
 returns : tie.Need-returns
 returns c =
     λ d w new clear l.
-    let a = c .before .before .before .before .before .before .before .before .before .before .before .before .args in
-    let e = new-refused (pairOf (a .words .now)) (a .f .now) (a .memory .now) _ d w new clear _ (c .before .before .before .before .before .before .before .validate .ensures)
-    (c .before .before .before .before .before .if1 .taken) in
+    let stopped = c .before .before .before .before .before in
+    let a = stopped .before .before .before .before .before .before .before .args in
+    let e = new-refused (pairOf (a .words .now)) (a .f .now) (a .memory .now) _ d w new clear _ (stopped .before .before .validate .ensures)
+    (stopped .if1 .taken) in
     let s = stays _ _ _ _ e in
     (s .0, s .1, c .refuse .ensures ∙ rw (c .before .peer .ensures, c .before .before .before .own .ensures) (s .2))
 
@@ -55,9 +56,10 @@ same-length-3 c = search needs
 returns-2 : tie.Need-returns-2
 returns-2 c =
     λ d w new clear l.
-    let passed = c .before .before .before .before .before .before .before .before .before .before .before .before in
+    let took = c .before .before .before .before .before .before .before .before .before in
+    let passed = took .before .before .before in
     let a = passed .before .before .before .before .before .before .before .args in
-    let applied = c .before .before .before .before .before .before .before .before .before .apply in
+    let applied = took .apply in
     let n = new-taken (pairOf (a .words .now)) (a .f .now) (a .memory .now) _ d w new clear _
     (passed .before .before .validate .ensures) (passed .if1 .left) in (
       c .before .before .accept .ensures .1 (applied .kept .0 ∙ l)

@@ -1,8 +1,7 @@
 -- `host_update::put_entry`: two words are set, and hold the entry.
 -- Assumes nothing.
-use mathlib.Core.Path.{_≡_, sym, _∙_}
-use mathlib.Core.List.{List}
-use Prim.Native.Nat.{ℕ, _%_}
+use mathlib.Core.Path.{_≡_, _∙_}
+use Prim.Native.Nat.{_%_}
 use native.Mathlib.Omega.{arith}
 use Rattle.host_update.specs.Updating.{withEntry}
 use Rattle.host_update.proofs.Updating.{holds-entry}
@@ -64,9 +63,10 @@ same-length c = search needs
 returns : tie.Need-returns
 unfolding withEntry
 returns c =
-    let a = c .before .before .before .before .before .before .before .before .before .before .before .before .before .args in
+    let first = c .before .before .before .before .before .before in
+    let a = first .before .before .before .before .before .before .before .args in
     let e : c .before .before .put2 .last .0 ≡ withEntry (a .w .now) (a .number % 32) (a .o) =
-    c .before .before .put2 .ensures ∙ rw (c .before .before .before .before .before .before .put .ensures) in (
+    c .before .before .put2 .ensures ∙ rw (first .put .ensures) in (
       e,
       λ l. rw e (holds-entry (a .w .now) (a .number % 32) (a .o) (omega arith) (search needs) (search needs) (search needs)
           (search needs) l),

@@ -1,6 +1,6 @@
 -- `host_validate::find_apart` judges message by message, as the definition does, with no entry kept.
 -- Assumes nothing.
-use mathlib.Core.Path.{_≡_, refl, sym, ap, _∙_}
+use mathlib.Core.Path.{sym, ap, _∙_}
 use mathlib.Core.Logic.{inl, inr}
 use mathlib.Core.List.{[]}
 use Prim.Native.Nat.{_+_, _-_}
@@ -106,10 +106,11 @@ refused-at-requires-4 c κs = search needs
 returns-4 : tie.Need-returns-4 Inv-loop μ-loop
 returns-4 c =
     let judged = c .before .before .before in
-    let k = judged .before .before .before .before .before .before .before .before .loop .inv in
+    let looped = judged .before .before .before .before .before .before .before .before in
+    let k = looped .loop .inv in
     let x = is-whole (sym (judged .before .before .before .before .before .before .before .message-at .ensures) ∙ judged .before .before .before .before .before .found .given .1) in
     let clear = sym (judged .before .before .before .is-marked .ensures) ∙ judged .before .before .if2 .left in
-    let w = judged .before .before .before .before .before .before .before .before .before .before .before .before .before .before .args .words .now in
+    let w = looped .before .before .before .before .before .before .args .words .now in
     inr (c .refused-at4 .ensures
     ∙ walking-stops (k .1) x (need-not w [] _ _ clear) (judged .before .entry .ensures ∙ current-words w [] _ _ clear)
     (judged .judge .ensures) (c .before .if3 .taken))
@@ -119,7 +120,8 @@ marked-requires c κs = search needs
 
 counted-requires : tie.Need-counted-requires Inv-loop μ-loop
 counted-requires c κs =
-    let k = c .before .before .before .before .before .before .before .before .before .before .before .loop .inv .0 in
+    let judged = c .before .before .before in
+    let k = judged .before .before .before .before .before .before .before .before .loop .inv .0 in
     (omega (arith, k), omega (arith, k), omega (arith, k))
 
 passed-requires : tie.Need-passed-requires Inv-loop μ-loop
@@ -128,10 +130,11 @@ passed-requires c κs = search needs
 returns-5 : tie.Need-returns-5 Inv-loop μ-loop
 returns-5 c =
     let judged = c .before .before .before .before .before .before in
-    let k = judged .before .before .before .before .before .before .before .before .loop .inv in
+    let looped = judged .before .before .before .before .before .before .before .before in
+    let k = looped .loop .inv in
     let x = is-whole (sym (judged .before .before .before .before .before .before .before .message-at .ensures) ∙ judged .before .before .before .before .before .found .given .1) in
     let clear = sym (judged .before .before .before .is-marked .ensures) ∙ judged .before .before .if2 .left in
-    let w = judged .before .before .before .before .before .before .before .before .before .before .before .before .before .before .args .words .now in
+    let w = looped .before .before .before .before .before .before .args .words .now in
     let q = rw (c .before .before .counted .ensures) at (c .passed .ensures) in
     inr (q
     ∙ walking-ends (k .1) x (need-not w [] _ _ clear) (judged .before .entry .ensures ∙ current-words w [] _ _ clear)
@@ -146,10 +149,11 @@ loop-less c =
 loop-again : tie.Need-loop-again Inv-loop μ-loop
 loop-again c =
     let judged = c .before .before .before .before .before in
-    let k = judged .before .before .before .before .before .before .before .before .loop .inv in
+    let looped = judged .before .before .before .before .before .before .before .before in
+    let k = looped .loop .inv in
     let x = is-whole (sym (judged .before .before .before .before .before .before .before .message-at .ensures) ∙ judged .before .before .before .before .before .found .given .1) in
     let clear = sym (judged .before .before .before .is-marked .ensures) ∙ judged .before .before .if2 .left in
-    let w = judged .before .before .before .before .before .before .before .before .before .before .before .before .before .before .args .words .now in
+    let w = looped .before .before .before .before .before .before .args .words .now in
     rw (c .before .counted .ensures) (
       steady-turn (k .0) x (judged .judge .result .done),
       walking-apart (k .1) x (need-not w [] _ _ clear) (judged .before .entry .ensures ∙ current-words w [] _ _ clear)

@@ -1,6 +1,6 @@
 -- `host_validate::find_kept` judges message by message, as the definition does.
 -- Assumes nothing.
-use mathlib.Core.Path.{_≡_, refl, sym, ap, _∙_}
+use mathlib.Core.Path.{_≡_, refl, sym, _∙_}
 use Prim.Native.Nat.{_+_, _-_}
 use native.Mathlib.Omega.{arith}
 use borrow.Author.Tests.{not-true, not-false}
@@ -96,37 +96,46 @@ refused-at-requires-3 : tie.Need-refused-at-requires-3 Inv-loop μ-loop
 refused-at-requires-3 c κs = search needs
 
 same-length-2 : tie.Need-same-length-2 Inv-loop μ-loop
-same-length-2 c = c .before .before .before .before .before .before .before .before .before .before .loop .inv .1
+same-length-2 c =
+    let judged = c .before .before .before in
+    judged .before .before .before .before .before .before .before .loop .inv .1
 
 returns-3 : tie.Need-returns-3 Inv-loop μ-loop
 returns-3 c =
     let judged = c .before .before .before in
-    let k = judged .before .before .before .before .before .before .before .loop .inv in
+    let looped = judged .before .before .before .before .before .before .before in
+    let k = looped .loop .inv in
     let x = is-whole (sym (judged .before .before .before .before .before .before .message-at .ensures) ∙ judged .before .before .before .before .found .given .1) in
     c .refused-at3 .ensures
-    ∙ walking-stops (k .2) x (λ m. k .1 ∙ judged .before .before .before .before .before .before .before .before .before .before .before .before .before .before .pre) (judged .before .current-entry .ensures) (judged .judge .ensures) (c .before .if2 .taken)
+    ∙ walking-stops (k .2) x (λ m. k .1 ∙ looped .before .before .before .before .before .before .before .pre)
+    (judged .before .current-entry .ensures) (judged .judge .ensures) (c .before .if2 .taken)
 
 note-requires : tie.Need-note-requires Inv-loop μ-loop
 note-requires c κs = search needs
 
 counted-requires : tie.Need-counted-requires Inv-loop μ-loop
 counted-requires c κs =
-    let k = c .before .before .before .before .before .before .before .before .before .before .before .before .before .loop .inv .0 in
+    let judged = c .before .before .before .before .before .before in
+    let k = judged .before .before .before .before .before .before .before .loop .inv .0 in
     (omega (arith, k), omega (arith, k), omega (arith, k))
 
 passed-requires : tie.Need-passed-requires Inv-loop μ-loop
 passed-requires c κs = search needs
 
 same-length-3 : tie.Need-same-length-3 Inv-loop μ-loop
-same-length-3 c = c .before .before .before .before .before .note .kept .0 ∙ c .before .before .before .before .before .before .before .before .before .before .before .before .before .before .before .before .loop .inv .1
+same-length-3 c =
+    let judged = c .before .before .before .before .before .before .before .before .before in
+    c .before .before .before .before .before .note .kept .0 ∙ judged .before .before .before .before .before .before .before .loop .inv .1
 
 returns-4 : tie.Need-returns-4 Inv-loop μ-loop
 returns-4 c =
     let judged = c .before .before .before .before .before .before .before .before .before in
-    let k = judged .before .before .before .before .before .before .before .loop .inv in
+    let looped = judged .before .before .before .before .before .before .before in
+    let k = looped .loop .inv in
     let x = is-whole (sym (judged .before .before .before .before .before .before .message-at .ensures) ∙ judged .before .before .before .before .found .given .1) in
     let q = rw (c .before .before .counted .ensures) at (c .passed .ensures) in
-    q ∙ walking-ends (k .2) x (λ m. k .1 ∙ judged .before .before .before .before .before .before .before .before .before .before .before .before .before .before .pre) (judged .before .current-entry .ensures) (judged .judge .ensures) (c .before .before .before .before .before .before .before .if2 .left) (not-true _ (c .before .if3 .taken))
+    q ∙ walking-ends (k .2) x (λ m. k .1 ∙ looped .before .before .before .before .before .before .before .pre)
+    (judged .before .current-entry .ensures) (judged .judge .ensures) (c .before .before .before .before .before .before .before .if2 .left) (not-true _ (c .before .if3 .taken))
 
 loop-less : tie.Need-loop-less Inv-loop μ-loop
 loop-less c =
@@ -137,13 +146,15 @@ loop-less c =
 loop-again : tie.Need-loop-again Inv-loop μ-loop
 loop-again c =
     let judged = c .before .before .before .before .before .before .before .before in
-    let k = judged .before .before .before .before .before .before .before .loop .inv in
+    let looped = judged .before .before .before .before .before .before .before in
+    let k = looped .loop .inv in
     let x = is-whole (sym (judged .before .before .before .before .before .before .message-at .ensures) ∙ judged .before .before .before .before .found .given .1) in
     let noted = c .before .before .before .before .note in
     rw (c .before .counted .ensures) (
       steady-turn (k .0) x (judged .judge .result .done),
       noted .kept .0 ∙ k .1,
-      walking-on (k .2) x (λ m. k .1 ∙ judged .before .before .before .before .before .before .before .before .before .before .before .before .before .before .pre) (judged .before .current-entry .ensures) (judged .judge .ensures) (c .before .before .before .before .before .before .if2 .left) _ _ (not-false _ (c .if3 .left)) (noted .kept .0) (noted .ensures),
+      walking-on (k .2) x (λ m. k .1 ∙ looped .before .before .before .before .before .before .before .pre)
+          (judged .before .current-entry .ensures) (judged .judge .ensures) (c .before .before .before .before .before .before .if2 .left) _ _ (not-false _ (c .if3 .left)) (noted .kept .0) (noted .ensures),
     )
 
 pub find-kept-spec : {M : Type 1} → statement M
