@@ -1,5 +1,6 @@
-// The charging host for C, behind the functions of include/logwhisker.h: numbers, slices and references to arrays only. Assumes of a
-// caller that pointers and lengths are right. It promises what the library's face does, with answers as words (specs/Words.antt).
+// The charging host for C, behind the functions of include/logwhisker.h: numbers, slices and references to arrays only.
+// Assumes of a caller that pointers and lengths are right. It promises what the library's face does, with answers as
+// words (specs/Words.antt).
 use logwhisker::FrameNo;
 ghost use mathlib.Core.Path.{_≡_};
 ghost use lib.ListN.{getD};
@@ -26,9 +27,12 @@ pub extern "C" fn lw_raw_host_receive(
     memory: &mut [u8],
     answer: &mut [u64; 7],
 ) -> u32
-    ensures { λ r. ⌜ r ≡ getD (answerWords (received (now (words .entry)) (now (frame .entry)) (now (memory .entry)) .answer)) 0 0 ⌝ }
-    ensures { λ _. ⌜ pairOf (now (words .exit)) ≡ received (now (words .entry)) (now (frame .entry)) (now (memory .entry)) .pair ⌝ }
-    ensures { λ _. ⌜ now (memory .exit) ≡ received (now (words .entry)) (now (frame .entry)) (now (memory .entry)) .memory ⌝ }
+    ensures { λ r. ⌜ r
+        ≡ getD (answerWords (received (now (words .entry)) (now (frame .entry)) (now (memory .entry)) .answer)) 0 0 ⌝ }
+    ensures { λ _. ⌜ pairOf (now (words .exit))
+        ≡ received (now (words .entry)) (now (frame .entry)) (now (memory .entry)) .pair ⌝ }
+    ensures { λ _. ⌜ now (memory .exit)
+        ≡ received (now (words .entry)) (now (frame .entry)) (now (memory .entry)) .memory ⌝ }
     ensures { λ _. ⌜ now (answer .exit)
         ≡ answerWords (received (now (words .entry)) (now (frame .entry)) (now (memory .entry)) .answer) ⌝ }
 {
@@ -37,7 +41,8 @@ pub extern "C" fn lw_raw_host_receive(
     logwhisker::kind_of(a)
 }
 
-// Writes the acknowledgement that an answer calls for and answers 1; where it calls for none nothing is written and the answer is 0.
+// Writes the acknowledgement that an answer calls for and answers 1; where it calls for none nothing is written and the
+// answer is 0.
 #[no_mangle]
 pub extern "C" fn lw_raw_host_acknowledge(
     words: &[u64; 67],
@@ -45,9 +50,13 @@ pub extern "C" fn lw_raw_host_acknowledge(
     number: u16,
     frame: &mut [u8; 10],
 ) -> u32
-    ensures { λ r. ⌜ r ≡ dueNumber (acknowledged (now (words .entry)) (answerOf (getD (now (answer .entry)) 0 0) (getD (now (answer .entry)) 1 0)) number) ⌝ }
+    ensures { λ r. ⌜ r
+        ≡ dueNumber (acknowledged (now (words .entry))
+        (answerOf (getD (now (answer .entry)) 0 0) (getD (now (answer .entry)) 1 0)) number) ⌝ }
     ensures { λ _. ⌜ now (frame .exit)
-        ≡ writtenWhereDue (acknowledged (now (words .entry)) (answerOf (getD (now (answer .entry)) 0 0) (getD (now (answer .entry)) 1 0)) number) (now (frame .entry)) ⌝ }
+        ≡ writtenWhereDue (acknowledged (now (words .entry))
+        (answerOf (getD (now (answer .entry)) 0 0) (getD (now (answer .entry)) 1 0)) number)
+        (now (frame .entry)) ⌝ }
 {
     let kind = answer[0];
     let answered = answer[1];

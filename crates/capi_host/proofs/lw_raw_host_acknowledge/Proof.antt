@@ -1,13 +1,25 @@
 -- `capi_host::lw_raw_host_acknowledge`: the bytes where they are due.
 -- Assumes nothing.
-use mathlib.Core.Path.{_≡_, sym, ap, _∙_}
+use mathlib.Core.Path.{_≡_}
+use mathlib.Core.Bool.{Bool, true, false, cond}
+use mathlib.Core.List.{List}
+use Prim.Native.Nat.{ℕ}
 use Rattle.host.specs.declared.Acknowledgement.{Acknowledgement}
+use Rattle.capi_host.specs.Words.{dueNumber, writtenWhereDue}
 use borrow.Author.Needs.{needs}
 use Rattle.capi_host.proofs.lw_raw_host_acknowledge.Statement.{statement}
 use Rattle.capi_host.proofs.lw_raw_host_acknowledge.Tie as tie
 use Rattle.capi_host.proofs.lw_raw_host_acknowledge.Reads as reads
 use Rattle.capi_host.proofs.lw_raw_host_acknowledge.Lts as lts
 use Rattle.logwhisker.proofs.acknowledge_words.Reads as acknowledge-words-reads
+
+-- what is told and what is written, by whether the acknowledgement that was made is due
+due-is : (made a : Acknowledgement) (due : Bool) → made ≡ a → made .due ≡ due → cond due 1 0 ≡ dueNumber a
+due-is made a due e d = rw (← e, d)
+
+written-is : (made a : Acknowledgement) (buffer : List ℕ) (due : Bool) → made ≡ a → made .due ≡ due
+    → cond due (made .frame) buffer ≡ writtenWhereDue a buffer
+written-is made a buffer due e d = rw (← e, d)
 
 element-copy-out-kind : tie.Need-element-copy-out-kind
 element-copy-out-kind c = search needs
@@ -21,14 +33,12 @@ acknowledge-words-requires c κs = search needs
 returns : tie.Need-returns
 returns c =
     let e = c .before .before .acknowledge-words .ensures in
-    let due = sym (ap (λ (k : Acknowledgement). k .due) e) ∙ c .before .if1 .taken in
-    (rw due, rw due (ap (λ (k : Acknowledgement). k .frame) e))
+    (due-is _ _ true e (c .before .if1 .taken), written-is _ _ _ true e (c .before .if1 .taken))
 
 returns-2 : tie.Need-returns-2
 returns-2 c =
     let e = c .before .acknowledge-words .ensures in
-    let due = sym (ap (λ (k : Acknowledgement). k .due) e) ∙ c .if1 .left in
-    (rw due, rw due)
+    (due-is _ _ false e (c .if1 .left), written-is _ _ _ false e (c .if1 .left))
 
 pub lw-raw-host-acknowledge-spec : {M : Type 1} → statement M
 lw-raw-host-acknowledge-spec =

@@ -1,6 +1,6 @@
 -- `capi_host::lw_raw_host_receive`: receiving, and the answer as words.
 -- Assumes nothing.
-use mathlib.Core.Path.{_≡_, _∙_}
+use mathlib.Core.Path.{_∙_}
 use borrow.Author.Needs.{needs}
 use Rattle.capi_host.proofs.lw_raw_host_receive.Statement.{statement}
 use Rattle.capi_host.proofs.lw_raw_host_receive.Tie as tie
