@@ -3,8 +3,8 @@ use Prim.Native.Nat.{ℕ}
 use mathlib.Core.Bool.{cond}
 use mathlib.Core.List.{List, [], _∷_}
 use lib.Dec.{eqb}
-use Rattle.card_send.specs.declared.Part.{Part}
-use Rattle.card_send.specs.declared.Choice.{Choice}
+use Rattle.card_show.specs.declared.Part.{Part}
+use Rattle.card_choose.specs.declared.Choice.{Choice}
 
 -- Where a step is refused, what was there stays.
 abbrev pub unlessRefused : ℕ → ℕ → ℕ → ℕ

@@ -5,7 +5,8 @@ use logwhisker::TransNo;
 ghost use mathlib.Core.Path.{_≡_};
 ghost use mathlib.Core.Bool.{cond};
 ghost use Rattle.card.specs.Card.{openTransaction, sealFrame};
-ghost use Rattle.card_send.specs.Parts.{shownPart, chosenPart};
+ghost use Rattle.card_show.specs.Parts.{shownPart};
+ghost use Rattle.card_choose.specs.Choices.{chosenPart};
 ghost use Rattle.card_words.specs.Words.{cardOf};
 ghost use Rattle.logwhisker.specs.Face.{
   cardOpened,
@@ -109,11 +110,12 @@ pub extern "C" fn lw_raw_card_show(
     part: &mut [u64; 2],
 ) -> u32
     ensures { λ r. ⌜ r ≡ frameShown (now (words .entry)) (now (slots .entry)) number .refusal ⌝ }
-    ensures { λ _. ⌜ now (part .exit) ≡ partNumbers (shownPart (now (words .entry)) (now (slots .entry)) number) ⌝ }
+    ensures { λ _. ⌜ now (part .exit) ≡ partNumbers (shownPart (now (words .entry)) (now (slots .entry)) number .part) ⌝ }
 {
     let shown = logwhisker::show_part(words, slots, FrameNo(number));
-    *part = [shown.offset as u64, shown.len as u64];
-    logwhisker::show_refusal(words, slots, FrameNo(number)) as u32
+    let bounds = shown.part;
+    *part = [bounds.offset as u64, bounds.len as u64];
+    shown.refusal as u32
 }
 
 fn one_if(lent: bool) -> u64
@@ -139,5 +141,5 @@ pub extern "C" fn lw_raw_card_choose(
     let chosen = logwhisker::choose_part(words, slots, ack);
     let bounds = chosen.part;
     *part = [one_if(chosen.lent), bounds.offset as u64, bounds.len as u64];
-    logwhisker::choose_refusal(words, slots, ack) as u32
+    chosen.refusal as u32
 }

@@ -3,8 +3,9 @@
 // It promises what specs/Face.antt says, which is what the theorem of the crate delivery is about.
 pub use card_number::OpenedTransaction;
 pub use card_number::SealedFrame;
-pub use card_send::Choice;
-pub use card_send::Part;
+pub use card_choose::Choice;
+pub use card_show::Part;
+pub use card_show::Showing;
 pub use host::Acknowledgement;
 pub use host::Answer;
 pub use host::Pair;
@@ -24,7 +25,8 @@ ghost use Rattle.card.specs.Card.{openTransaction, sealFrame};
 ghost use Rattle.host.specs.Host.{steppedOf, answerOf};
 ghost use Rattle.host_describe.specs.Describing.{description};
 ghost use Rattle.delivery.specs.System.{specifiedHost};
-ghost use Rattle.card_send.specs.Parts.{shownPart, chosenPart};
+ghost use Rattle.card_show.specs.Parts.{shownPart};
+ghost use Rattle.card_choose.specs.Choices.{chosenPart};
 ghost use Rattle.logwhisker.specs.Face.{
   hostOpened,
   received,
@@ -168,14 +170,14 @@ pub fn read_acknowledgements(words: &mut [u64; 85], frame: &[u8]) -> u8
 pub fn show_frame<'a>(words: &[u64; 85], slots: &'a [u8], number: FrameNo) -> &'a [u8]
     ensures { λ r. ⌜ now r ≡ frameShown (now (words .entry)) (now (slots .entry)) (number .0) .part ⌝ }
 {
-    card_send::show_frame(words, slots, number)
+    card_show::show_frame(words, slots, number)
 }
 
 // The refusal of showing a frame, 0 for none.
 pub fn show_refusal(words: &[u64; 85], slots: &[u8], number: FrameNo) -> u8
     ensures { λ r. ⌜ r ≡ frameShown (now (words .entry)) (now (slots .entry)) (number .0) .refusal ⌝ }
 {
-    card_send::show_refusal(words, slots, number)
+    card_show::show_refusal(words, slots, number)
 }
 
 // Chooses what goes out next: the lent acknowledgement if it has 10 bytes, else the oldest held frame, each as a part
@@ -183,28 +185,30 @@ pub fn show_refusal(words: &[u64; 85], slots: &[u8], number: FrameNo) -> u8
 pub fn choose_next<'a>(words: &[u64; 85], slots: &'a [u8], ack: &'a [u8]) -> &'a [u8]
     ensures { λ r. ⌜ now r ≡ nextChosen (now (words .entry)) (now (slots .entry)) (now (ack .entry)) .part ⌝ }
 {
-    card_send::choose_next(words, slots, ack)
+    card_choose::choose_next(words, slots, ack)
 }
 
 // The refusal of choosing, 0 for none.
 pub fn choose_refusal(words: &[u64; 85], slots: &[u8], ack: &[u8]) -> u8
     ensures { λ r. ⌜ r ≡ nextChosen (now (words .entry)) (now (slots .entry)) (now (ack .entry)) .refusal ⌝ }
 {
-    card_send::choose_refusal(words, slots, ack)
+    card_choose::choose_refusal(words, slots, ack)
 }
 
 // ---- parts as numbers, for callers that no reference can be handed back to
 
-// Where the part that show_frame hands out lies in the slots.
-pub fn show_part(words: &[u64; 85], slots: &[u8], number: FrameNo) -> Part
+// Where the part that show_frame hands out lies in the slots, and its refusal.
+pub fn show_part(words: &[u64; 85], slots: &[u8], number: FrameNo) -> Showing
     ensures { λ r. ⌜ r ≡ shownPart (now (words .entry)) (now (slots .entry)) (number .0) ⌝ }
+    ensures { λ r. ⌜ r .refusal ≡ frameShown (now (words .entry)) (now (slots .entry)) (number .0) .refusal ⌝ }
 {
-    card_send::show_part(words, slots, number)
+    card_show::show_part(words, slots, number)
 }
 
-// Where the part that choose_next hands out lies, in the slots or in the lent acknowledgement.
+// Where the part that choose_next hands out lies, in the slots or in the lent acknowledgement, and its refusal.
 pub fn choose_part(words: &[u64; 85], slots: &[u8], ack: &[u8]) -> Choice
     ensures { λ r. ⌜ r ≡ chosenPart (now (words .entry)) (now (slots .entry)) (now (ack .entry)) ⌝ }
+    ensures { λ r. ⌜ r .refusal ≡ nextChosen (now (words .entry)) (now (slots .entry)) (now (ack .entry)) .refusal ⌝ }
 {
-    card_send::choose_part(words, slots, ack)
+    card_choose::choose_part(words, slots, ack)
 }

@@ -1,6 +1,6 @@
 -- `capi_card::lw_raw_card_choose`: the choice and its refusal.
 -- Assumes nothing.
-use mathlib.Core.Path.{_≡_, ap}
+use mathlib.Core.Path.{ap}
 use Rattle.capi_card.specs.Numbers.{choiceNumbers}
 use borrow.Author.Needs.{needs}
 use Rattle.capi_card.proofs.lw_raw_card_choose.Statement.{statement}
@@ -9,7 +9,6 @@ use Rattle.capi_card.proofs.lw_raw_card_choose.Reads as reads
 use Rattle.capi_card.proofs.lw_raw_card_choose.Lts as lts
 use Rattle.capi_card.proofs.one_if.Reads as one-if-reads
 use Rattle.logwhisker.proofs.choose_part.Reads as choose-part-reads
-use Rattle.logwhisker.proofs.choose_refusal.Reads as choose-refusal-reads
 
 choose-part-requires : tie.Need-choose-part-requires
 choose-part-requires c κs = search needs
@@ -17,19 +16,15 @@ choose-part-requires c κs = search needs
 one-if-requires : tie.Need-one-if-requires
 one-if-requires c κs = search needs
 
-choose-refusal-requires : tie.Need-choose-refusal-requires
-choose-refusal-requires c κs = search needs
-
 cast-result : tie.Need-cast-result
 cast-result c = search needs
 
 returns : tie.Need-returns
-returns c = (
-  c .choose-refusal .ensures,
-  rw (c .before .before .one-if .ensures) (ap choiceNumbers (c .before .before .before .before .choose-part .ensures)),
-)
+returns c =
+    let o = c .before .before in
+    let s = o .before .before in
+    (s .choose-part .ensures .1, rw (o .one-if .ensures) (ap choiceNumbers (s .choose-part .ensures .0)))
 
 pub lw-raw-card-choose-spec : {M : Type 1} → statement M
 lw-raw-card-choose-spec =
-    tie.close
-    (tie.spec choose-part-requires one-if-requires choose-refusal-requires cast-result returns)
+    tie.close (tie.spec choose-part-requires one-if-requires cast-result returns)

@@ -1,7 +1,7 @@
 -- `capi_card::lw_raw_card_show`: the part and its refusal.
 -- Assumes nothing.
-use mathlib.Core.Path.{_≡_, ap}
-use Rattle.card_send.specs.declared.Part.{Part}
+use mathlib.Core.Path.{ap}
+use Rattle.card_show.specs.declared.Showing.{Showing}
 use Rattle.capi_card.specs.Numbers.{partNumbers}
 use borrow.Author.Needs.{needs}
 use Rattle.capi_card.proofs.lw_raw_card_show.Statement.{statement}
@@ -9,20 +9,17 @@ use Rattle.capi_card.proofs.lw_raw_card_show.Tie as tie
 use Rattle.capi_card.proofs.lw_raw_card_show.Reads as reads
 use Rattle.capi_card.proofs.lw_raw_card_show.Lts as lts
 use Rattle.logwhisker.proofs.show_part.Reads as show-part-reads
-use Rattle.logwhisker.proofs.show_refusal.Reads as show-refusal-reads
 
 show-part-requires : tie.Need-show-part-requires
 show-part-requires c κs = search needs
-
-show-refusal-requires : tie.Need-show-refusal-requires
-show-refusal-requires c κs = search needs
 
 cast-result : tie.Need-cast-result
 cast-result c = search needs
 
 returns : tie.Need-returns
-returns c = (c .show-refusal .ensures, ap partNumbers (c .before .before .show-part .ensures))
+returns c =
+    let s = c .before .before .before in
+    (s .show-part .ensures .1, ap (λ (x : Showing). partNumbers (x .part)) (s .show-part .ensures .0))
 
 pub lw-raw-card-show-spec : {M : Type 1} → statement M
-lw-raw-card-show-spec =
-    tie.close (tie.spec show-part-requires show-refusal-requires cast-result returns)
+lw-raw-card-show-spec = tie.close (tie.spec show-part-requires cast-result returns)

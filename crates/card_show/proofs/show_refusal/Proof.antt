@@ -1,0 +1,82 @@
+-- `show_refusal`: 26 before 25.
+-- Assumes nothing.
+use mathlib.Core.Path.{sym, _∙_}
+use borrow.Author.Tests.{eq-eqb, ne-eqb, not-true, not-false}
+use Rattle.card.specs.Card.{showRefusal}
+use Rattle.card_words.proofs.Heads.{unfit, fit}
+use borrow.Author.Needs.{needs}
+use Rattle.card_show.proofs.show_refusal.Statement.{statement}
+use Rattle.card_show.proofs.show_refusal.Tie as tie
+use Rattle.card_show.proofs.show_refusal.Reads as reads
+use Rattle.card_show.proofs.show_refusal.Lts as lts
+use Rattle.card.proofs.is_fitting.Reads as is-fitting-reads
+use Rattle.card_show.proofs.is_held.Reads as is-held-reads
+use Rattle.card_words.proofs.head_of.Reads as head-of-reads
+
+returns : tie.Need-returns
+unfolding showRefusal
+returns c = rw (ne-eqb _ 85 (c .if1 .taken))
+
+head-of-requires : tie.Need-head-of-requires
+head-of-requires c κs = search needs
+
+cast-is-fitting : tie.Need-cast-is-fitting
+cast-is-fitting c = search needs
+
+is-fitting-requires : tie.Need-is-fitting-requires
+is-fitting-requires c κs = search needs
+
+returns-2 : tie.Need-returns-2
+unfolding showRefusal
+returns-2 c =
+    let f = c .before in
+    let s = f .before .before in
+    let a = s .before .before .before .before .args in
+    rw (
+      eq-eqb _ 85 (s .before .if1 .left),
+      unfit (a .words .now) _ (s .head-of .ensures) (a .slots .now) _ (f .is-fitting .ensures) (c .if2 .taken),
+    )
+
+is-held-requires : tie.Need-is-held-requires
+is-held-requires c κs = search needs
+
+returns-3 : tie.Need-returns-3
+unfolding showRefusal
+returns-3 c =
+    let k = c .before in
+    let i = k .before in
+    let f = i .before in
+    let s = f .before .before in
+    let a = s .before .before .before .before .args in
+    rw (
+      eq-eqb _ 85 (s .before .if1 .left),
+      fit (a .words .now) _ (s .head-of .ensures) (a .slots .now) _ (f .is-fitting .ensures) (i .if2 .left),
+      sym (k .is-held .ensures) ∙ not-true _ (c .if3 .taken),
+    )
+
+returns-4 : tie.Need-returns-4
+unfolding showRefusal
+returns-4 c =
+    let k = c .before in
+    let i = k .before in
+    let f = i .before in
+    let s = f .before .before in
+    let a = s .before .before .before .before .args in
+    rw (
+      eq-eqb _ 85 (s .before .if1 .left),
+      fit (a .words .now) _ (s .head-of .ensures) (a .slots .now) _ (f .is-fitting .ensures) (i .if2 .left),
+      sym (k .is-held .ensures) ∙ not-false _ (c .if3 .left),
+    )
+
+pub show-refusal-spec : {M : Type 1} → statement M
+show-refusal-spec =
+    tie.close
+    (tie.spec
+    returns
+    head-of-requires
+    cast-is-fitting
+    is-fitting-requires
+    returns-2
+    is-held-requires
+    returns-3
+    returns-4)
