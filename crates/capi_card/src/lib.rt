@@ -1,5 +1,6 @@
-// The card for C, behind the functions of include/logwhisker.h: numbers, slices and references to arrays only. Assumes of a caller
-// that pointers and lengths are right. It promises what the library's face does, with parts as numbers (specs/Numbers.antt).
+// The card for C, behind the functions of include/logwhisker.h: numbers, slices and references to arrays only. Assumes
+// of a caller that pointers and lengths are right. It promises what the library's face does, with parts as numbers
+// (specs/Numbers.antt).
 use logwhisker::FrameNo;
 use logwhisker::TransNo;
 ghost use mathlib.Core.Path.{_≡_};
@@ -66,7 +67,8 @@ pub extern "C" fn lw_raw_card_add(
     address: u32,
     payload: &[u8],
 ) -> u32
-    ensures { λ r. ⌜ r ≡ messageAdded (now (words .entry)) (now (slots .entry)) transaction address (now (payload .entry)) .refusal ⌝ }
+    ensures { λ r. ⌜ r
+        ≡ messageAdded (now (words .entry)) (now (slots .entry)) transaction address (now (payload .entry)) .refusal ⌝ }
     ensures { λ _. ⌜ cardOf (now (words .exit))
         ≡ messageAdded (now (words .entry)) (now (slots .entry)) transaction address (now (payload .entry)) .card ⌝ }
     ensures { λ _. ⌜ now (slots .exit)
@@ -110,7 +112,8 @@ pub extern "C" fn lw_raw_card_show(
     part: &mut [u64; 2],
 ) -> u32
     ensures { λ r. ⌜ r ≡ frameShown (now (words .entry)) (now (slots .entry)) number .refusal ⌝ }
-    ensures { λ _. ⌜ now (part .exit) ≡ partNumbers (shownPart (now (words .entry)) (now (slots .entry)) number .part) ⌝ }
+    ensures { λ _. ⌜ now (part .exit)
+        ≡ partNumbers (shownPart (now (words .entry)) (now (slots .entry)) number .part) ⌝ }
 {
     let shown = logwhisker::show_part(words, slots, FrameNo(number));
     let bounds = shown.part;
@@ -127,7 +130,8 @@ fn one_if(lent: bool) -> u64
     0
 }
 
-// Chooses what goes out next: from which buffer (1 the lent acknowledgement, 0 the slots), where it lies there, and how long it is.
+// Chooses what goes out next: from which buffer (1 the lent acknowledgement, 0 the slots), where it lies there, and how
+// long it is.
 #[no_mangle]
 pub extern "C" fn lw_raw_card_choose(
     words: &[u64; 85],
@@ -136,7 +140,8 @@ pub extern "C" fn lw_raw_card_choose(
     part: &mut [u64; 3],
 ) -> u32
     ensures { λ r. ⌜ r ≡ nextChosen (now (words .entry)) (now (slots .entry)) (now (ack .entry)) .refusal ⌝ }
-    ensures { λ _. ⌜ now (part .exit) ≡ choiceNumbers (chosenPart (now (words .entry)) (now (slots .entry)) (now (ack .entry))) ⌝ }
+    ensures { λ _. ⌜ now (part .exit)
+        ≡ choiceNumbers (chosenPart (now (words .entry)) (now (slots .entry)) (now (ack .entry))) ⌝ }
 {
     let chosen = logwhisker::choose_part(words, slots, ack);
     let bounds = chosen.part;

@@ -1,5 +1,5 @@
--- Reading an acknowledgement in place: what is read of the words and stored in them, against the definitions of the card that they
--- hold.
+-- Reading an acknowledgement in place: what is read of the words and stored in them, against the definitions of the
+-- card that they hold.
 -- Assumes nothing.
 use mathlib.Core.Path.{_≡_, _∙_}
 use mathlib.Core.Logic.{_≢_}
@@ -11,7 +11,7 @@ use Rattle.seq.specs.declared.FrameNo.{FrameNo}
 use Rattle.seq.specs.declared.TransNo.{TransNo}
 use Rattle.bitmap.specs.Marks.{trailingOnes, marksOf}
 use Rattle.wire.specs.declared.FrameHeader.{FrameHeader}
-use Rattle.wire.specs.Reading.{addressed, readFrame, refusalOf, ackStart, ackCount}
+use Rattle.wire.specs.Reading.{addressed, readFrame, refusalOf}
 use Rattle.wire_read.specs.Finding.{headerOf}
 use Rattle.card.specs.Window.{acknowledgedBy, releasing, acknowledging}
 use Rattle.card.specs.Sendings.{finishedBy, passing, finishing}

@@ -1,6 +1,6 @@
-// Reading acknowledgements: until when the card sends its frames again. The card is in words that are lent and changed in place.
-// Assumes nothing of words and frame. It promises what card/specs/Card.antt says, readAcks, of the card that the words hold, and
-// that a refused reading changes no word.
+// Reading acknowledgements: until when the card sends its frames again. The card is in words that are lent and changed
+// in place. Assumes nothing of words and frame. It promises what card/specs/Card.antt says, readAcks, of the card that
+// the words hold, and that a refused reading changes no word.
 use bitmap::word32;
 use bitmap::word64;
 use seq::FrameNo;

@@ -1,6 +1,6 @@
-// Which message the frame being built admits: the refusals of adding one, in their order. The card is in words that are lent to be
-// read; the slot buffer is lent for its length. Assumes nothing of words, slots and data. It promises what card/specs/Card.antt
-// refuses for the card that the words hold.
+// Which message the frame being built admits: the refusals of adding one, in their order. The card is in words that are
+// lent to be read; the slot buffer is lent for its length. Assumes nothing of words, slots and data. It promises what
+// card/specs/Card.antt refuses for the card that the words hold.
 use seq::TransNo;
 ghost use mathlib.Core.Path.{_≡_};
 ghost use mathlib.Core.Bool.{_&&_};
@@ -48,7 +48,7 @@ fn is_past_limit(limit: u16, used: u16, payload: &[u8]) -> bool
     ensures { λ r. ⌜ r ≡ ltb limit (nextHeader used + 24 + length (now (payload .entry))) ⌝ }
 {
     let most = limit as usize;
-    let start = header_offset(used) + 24;
+    let start = header_offset(used) + wire::MESSAGE_HEADER;
     if most < start {
         return true;
     }

@@ -1,5 +1,5 @@
--- Adding a message in place: what is read of the words, and what is stored, against the definitions of the card that the words
--- hold.
+-- Adding a message in place: what is read of the words, and what is stored, against the definitions of the card that
+-- the words hold.
 -- Assumes nothing.
 use mathlib.Core.Path.{_≡_, _∙_}
 use mathlib.Core.Logic.{_≢_}

@@ -1,5 +1,5 @@
--- What adding a message leaves in the slots for a card in lent words: what the definition of card/specs/Card.antt leaves for the
--- card that the words hold, and nothing written for a buffer of another length.
+-- What adding a message leaves in the slots for a card in lent words: what the definition of card/specs/Card.antt
+-- leaves for the card that the words hold, and nothing written for a buffer of another length.
 use Prim.Native.Nat.{ℕ}
 use mathlib.Core.Bool.{cond}
 use mathlib.Core.List.{List}

@@ -1,6 +1,7 @@
-// Adding a message to the frame being built. The card is in words that are lent and changed in place; the slot buffer is lent, and
-// written to inside the slot of that frame only. Assumes nothing of words, slots and data. It promises what card/specs/Card.antt
-// says of the card that the words hold, every byte of the slots, and that a refused adding changes no word.
+// Adding a message to the frame being built. The card is in words that are lent and changed in place; the slot buffer
+// is lent, and written to inside the slot of that frame only. Assumes nothing of words, slots and data. It promises
+// what card/specs/Card.antt says of the card that the words hold, every byte of the slots, and that a refused adding
+// changes no word.
 use card::Sending;
 use seq::FrameNo;
 use seq::TransNo;
@@ -34,7 +35,8 @@ fn header_of(words: &[u64], t: TransNo, at: u32) -> MessageHeader
     }
 }
 
-// Writes a message into a slot: the first one with the frame's header, from one ID to another, a later one after those so far.
+// Writes a message into a slot: the first one with the frame's header, from one ID to another, a later one after those
+// so far.
 fn write_in_slot(
     slot: &mut [u8],
     to: u16,
@@ -101,14 +103,15 @@ fn count_message(words: &mut [u64], t: TransNo, payload: &[u8])
     );
     let start = card_admit::header_offset(h.used);
     let mut next = h;
-    next.used = (start + 24 + payload.len()) as u16;
+    next.used = (start + wire::MESSAGE_HEADER + payload.len()) as u16;
     next.last = start as u16;
     card_store::put_head(words, next);
 }
 
 // ---- adding it
 
-// Adds one message of transaction t, with data for an address, to the frame being built, and answers the refusal, 0 for none.
+// Adds one message of transaction t, with data for an address, to the frame being built, and answers the refusal, 0 for
+// none.
 pub fn add_message(words: &mut [u64], slots: &mut [u8], t: TransNo, at: u32, payload: &[u8]) -> u8
     ensures { λ r. ⌜ r ≡ orNotCard (now (words .entry))
         (addMessage (cardOf (now (words .entry))) (now (slots .entry)) (t .0) at (now (payload .entry)) .step .refusal) ⌝ }

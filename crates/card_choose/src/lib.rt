@@ -1,6 +1,7 @@
-// Choosing what goes out next: the lent acknowledgement, or the oldest held frame. Nothing changes; a part of what is lent is handed
-// out, as that part or as its offset and length. Assumes nothing of words and slots. It promises what card/specs/Card.antt says of
-// the card that the words hold; proofs/Choosing.antt shows that both forms are the same part.
+// Choosing what goes out next: the lent acknowledgement, or the oldest held frame. Nothing changes; a part of what is
+// lent is handed out, as that part or as its offset and length. Assumes nothing of words and slots. It promises what
+// card/specs/Card.antt says of the card that the words hold; proofs/Choosing.antt shows that both forms are the same
+// part.
 use bitmap::word64;
 use card_show::Part;
 use seq::FrameNo;
@@ -11,8 +12,8 @@ ghost use Rattle.card.specs.Card.{isAck, chooseRefusal};
 ghost use Rattle.card_words.specs.Words.{cardOf, orNotCard};
 ghost use Rattle.card_choose.specs.Choices.{chosenPart, chosenIn};
 
-// A choice: its refusal, 0 for none, and a part of the lent acknowledgement, where lent says so, else of the slots; no part where it
-// is refused.
+// A choice: its refusal, 0 for none, and a part of the lent acknowledgement, where lent says so, else of the slots; no
+// part where it is refused.
 pub struct Choice {
     pub refusal: u8,
     pub lent: bool,
@@ -121,8 +122,8 @@ pub fn choose_part(words: &[u64], slots: &[u8], ack: &[u8]) -> Choice
     }
 }
 
-// Chooses what goes out next: the lent acknowledgement, or the oldest held frame, each as a part of its own buffer; an empty part
-// where the choice is refused.
+// Chooses what goes out next: the lent acknowledgement, or the oldest held frame, each as a part of its own buffer; an
+// empty part where the choice is refused.
 pub fn choose_next<'a>(words: &[u64], slots: &'a [u8], ack: &'a [u8]) -> &'a [u8]
     ensures { λ r. ⌜ now r ≡ chosenIn (now (words .entry)) (now (slots .entry)) (now (ack .entry)) ⌝ }
 {

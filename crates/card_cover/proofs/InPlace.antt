@@ -1,5 +1,5 @@
--- Runs of bits against the test of one frame after another, and what is read of the words against the definitions of the card that
--- they hold.
+-- Runs of bits against the test of one frame after another, and what is read of the words against the definitions of
+-- the card that they hold.
 -- Assumes nothing.
 use mathlib.Core.Path.{_≡_, refl, sym, _∙_}
 use mathlib.Core.Bool.{Bool, true, false, _&&_, _||_}

@@ -1,6 +1,6 @@
-// Which sealed frames are acknowledged once an acknowledgement is read: those that were, and those that its range covers. The card
-// is in words that are lent to be read. Assumes nothing of the words. It promises what card/specs/Window.antt says,
-// acknowledgedBy, of the card that the words hold.
+// Which sealed frames are acknowledged once an acknowledgement is read: those that were, and those that its range
+// covers. The card is in words that are lent to be read. Assumes nothing of the words. It promises what
+// card/specs/Window.antt says, acknowledgedBy, of the card that the words hold.
 use bitmap::word64;
 use seq::FrameNo;
 ghost use mathlib.Core.Path.{_≡_};
@@ -9,8 +9,8 @@ ghost use Rattle.card.specs.Window.{acknowledgedBy};
 ghost use Rattle.card_words.specs.Words.{cardOf};
 ghost use Rattle.card_cover.specs.Covering.{coveredBy};
 
-// Marks of the frames from base on that are among the count numbers from start on: a run of them, from the distance of start on,
-// and where that run comes round to base, one from base on too.
+// Marks of the frames from base on that are among the count numbers from start on: a run of them, from the distance of
+// start on, and where that run comes round to base, one from base on too.
 fn covered(base: FrameNo, start: FrameNo, count: u8) -> u64
     ensures { λ r. ⌜ r ≡ marksOf 64 (coveredBy (base .0) (start .0) count) ⌝ }
 {

@@ -1,6 +1,6 @@
-// Which transactions are finished once frames are released: those that were, and those whose messages all lie in released frames.
-// The card is in words that are lent to be read. Assumes nothing of the words. It promises what card/specs/Sendings.antt says,
-// finishedBy, of the card that the words hold.
+// Which transactions are finished once frames are released: those that were, and those whose messages all lie in
+// released frames. The card is in words that are lent to be read. Assumes nothing of the words. It promises what
+// card/specs/Sendings.antt says, finishedBy, of the card that the words hold.
 use bitmap::word32;
 use card::Sending;
 use seq::FrameNo;
@@ -51,7 +51,8 @@ fn at_most_32(n: u32) -> u32
     32
 }
 
-// Marks of the transactions finished once the frames before base are released. Only opened ones are, so that no other is looked at.
+// Marks of the transactions finished once the frames before base are released. Only opened ones are, so that no other
+// is looked at.
 pub fn finished_marks(words: &[u64], base: FrameNo, next: FrameNo) -> u32
     ensures { λ r. ⌜ r ≡ marksOf 32 (finishedBy (cardOf (now (words .entry)) .sendings) (base .0) (next .0)) ⌝ }
 {

@@ -1,5 +1,5 @@
--- Opening a transaction and sealing a frame, in place: what is read of the words, and what is stored, against the definitions of
--- the card that the words hold.
+-- Opening a transaction and sealing a frame, in place: what is read of the words, and what is stored, against the
+-- definitions of the card that the words hold.
 -- Assumes nothing.
 use mathlib.Core.Path.{_≡_}
 use mathlib.Core.Logic.{_≢_}

@@ -1,5 +1,5 @@
--- What the steps that give a number answer for a card in lent words: what the definitions of card/specs/Card.antt answer for the
--- card that the words hold, and for a buffer of another length its own refusal and the number 0.
+-- What the steps that give a number answer for a card in lent words: what the definitions of card/specs/Card.antt
+-- answer for the card that the words hold, and for a buffer of another length its own refusal and the number 0.
 use Prim.Native.Nat.{ℕ}
 use mathlib.Core.Bool.{cond}
 use mathlib.Core.List.{List}

@@ -1,6 +1,6 @@
-// The two steps that give a number: opening a transaction, and sealing the frame being built. The card is in words that are lent and
-// changed in place; no slot is written. Assumes nothing of words and slots. It promises what card/specs/Card.antt says of the card
-// that the words hold, and that a refused step changes no word.
+// The two steps that give a number: opening a transaction, and sealing the frame being built. The card is in words that
+// are lent and changed in place; no slot is written. Assumes nothing of words and slots. It promises what
+// card/specs/Card.antt says of the card that the words hold, and that a refused step changes no word.
 use card::Sending;
 use seq::FrameNo;
 use seq::TransNo;

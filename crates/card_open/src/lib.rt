@@ -1,6 +1,6 @@
-// Opening a card in 85 words that a caller lends. Assumes nothing of the words and of the slot buffer, which is lent for its length.
-// It promises the refusal, by the decoding of card_words/specs/Words.antt which card the words hold then, and that a buffer of
-// another length is left as it was.
+// Opening a card in 85 words that a caller lends. Assumes nothing of the words and of the slot buffer, which is lent
+// for its length. It promises the refusal, by the decoding of card_words/specs/Words.antt which card the words hold
+// then, and that a buffer of another length is left as it was.
 use card_words::CARD_WORDS;
 use card_words::Head;
 use card_words::NOT_CARD;
@@ -38,8 +38,8 @@ fn card_refusal(own: u16, peer: u16, limit: usize, slots: &[u8]) -> u8
     0
 }
 
-// Opens a card with a frame limit in these words, and answers the refusal, 0 for none. A refused opening leaves a card with both
-// IDs and the limit 0.
+// Opens a card with a frame limit in these words, and answers the refusal, 0 for none. A refused opening leaves a card
+// with both IDs and the limit 0.
 pub fn open_card(w: &mut [u64], own: u16, peer: u16, limit: usize, slots: &[u8]) -> u8
     ensures { λ r. ⌜ r ≡ orNotCard (now (w .entry)) (openCard own peer limit (now (slots .entry)) .refusal) ⌝ }
     ensures { λ _. ⌜ Leaves (now (w .entry)) (now (w .exit)) (openCard own peer limit (now (slots .entry)) .card) ⌝ }

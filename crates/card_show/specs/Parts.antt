@@ -1,5 +1,5 @@
--- Parts of lent buffers as two numbers, and what is shown for a card in lent words: what the definitions of card/specs/Card.antt
--- say of the card that the words hold, and an empty part for a buffer of another length.
+-- Parts of lent buffers as two numbers, and what is shown for a card in lent words: what the definitions of
+-- card/specs/Card.antt say of the card that the words hold, and an empty part for a buffer of another length.
 use Prim.Native.Nat.{ℕ, _+_}
 use mathlib.Core.Bool.{cond}
 use mathlib.Core.List.{List, []}

@@ -1,6 +1,6 @@
-// Showing a held frame. Nothing changes; a part of the lent slots is handed out, as that part or as its offset and length. Assumes
-// nothing of words and slots. It promises what card/specs/Card.antt says of the card that the words hold; proofs/Parts.antt shows
-// that both forms are the same part.
+// Showing a held frame. Nothing changes; a part of the lent slots is handed out, as that part or as its offset and
+// length. Assumes nothing of words and slots. It promises what card/specs/Card.antt says of the card that the words
+// hold; proofs/Parts.antt shows that both forms are the same part.
 use bitmap::word64;
 use seq::FrameNo;
 ghost use mathlib.Core.Path.{_≡_};

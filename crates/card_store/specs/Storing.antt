@@ -1,5 +1,5 @@
--- Numbers put into words, as the code that stores a card does it. Nobody has to believe them: the promises of storing are by the
--- decoding of card_words/specs/Words.antt.
+-- Numbers put into words, as the code that stores a card does it. Nobody has to believe them: the promises of storing
+-- are by the decoding of card_words/specs/Words.antt.
 use Prim.Native.Nat.{ℕ, _+_, _*_, _/_, _%_}
 use mathlib.Core.Path.{_≡_}
 use mathlib.Core.List.{List, [], _∷_}

@@ -1,6 +1,6 @@
-// Storing the parts of a card in the words that a caller lends: its head, the length of a sealed frame, a transaction. Assumes nothing
-// of the words. It promises by the decoding of card_words/specs/Words.antt which card they hold then, and that a buffer of another
-// length is left as it was.
+// Storing the parts of a card in the words that a caller lends: its head, the length of a sealed frame, a transaction.
+// Assumes nothing of the words. It promises by the decoding of card_words/specs/Words.antt which card they hold then,
+// and that a buffer of another length is left as it was.
 use card::Sending;
 use card_words::CARD_WORDS;
 use card_words::Head;

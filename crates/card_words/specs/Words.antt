@@ -1,6 +1,6 @@
--- A card in 85 words of 64 bits that a caller lends. `cardOf` says which card any words are; bits that it does not name count for
--- nothing. Words 0 to 4 are the head, 5 to 20 the lengths of sealed frames, four a word, and 21 to 84 the transactions, two words
--- each.
+-- A card in 85 words of 64 bits that a caller lends. `cardOf` says which card any words are; bits that it does not name
+-- count for nothing. Words 0 to 4 are the head, 5 to 20 the lengths of sealed frames, four a word, and 21 to 84 the
+-- transactions, two words each.
 use Prim.Native.Nat.{ℕ, zero, suc, _+_, _*_, _/_, _%_, _^_}
 use mathlib.Core.Path.{_≡_}
 use mathlib.Core.Logic.{_≢_}
@@ -30,7 +30,8 @@ quarter x j = x / 2 ^ (16 * j) % 65536
 abbrev pub sizeIn : List ℕ → ℕ → ℕ
 sizeIn w k = quarter (getD w (5 + k / 4) 0) (k % 4)
 
--- A transaction by its two words: its completion's address and value; its count, what is added, and the frame of the latest.
+-- A transaction by its two words: its completion's address and value; its count, what is added, and the frame of the
+-- latest.
 abbrev pub sendingBy : ℕ → ℕ → Sending
 sendingBy a b = record {
   address = a % 4294967296;

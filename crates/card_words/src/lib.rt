@@ -16,8 +16,8 @@ pub const CARD_WORDS: usize = 85;
 // The answer to a buffer of another length. The rules have no such number.
 pub const NOT_CARD: u8 = 255;
 
-// What a card holds beside the lengths of its frames and its transactions. upcoming is the number that the next opening of a
-// transaction gives.
+// What a card holds beside the lengths of its frames and its transactions. upcoming is the number that the next opening
+// of a transaction gives.
 pub struct Head {
     pub own: u16,
     pub peer: u16,

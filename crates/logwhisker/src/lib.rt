@@ -1,9 +1,9 @@
 // The library's face: what a caller in Rattle uses. Both ends in place over words that the caller lends, and the host
 // by value; a frame's layout; a refusal's class. Assumes nothing: any words are a state, and any bytes get an answer.
 // It promises what specs/Face.antt says, which is what the theorem of the crate delivery is about.
+pub use card_choose::Choice;
 pub use card_number::OpenedTransaction;
 pub use card_number::SealedFrame;
-pub use card_choose::Choice;
 pub use card_show::Part;
 pub use card_show::Showing;
 pub use host::Acknowledgement;

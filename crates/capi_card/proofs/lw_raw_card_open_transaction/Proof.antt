@@ -1,6 +1,6 @@
 -- `capi_card::lw_raw_card_open_transaction`: the number where the step is not refused.
 -- Assumes nothing.
-use mathlib.Core.Path.{_≡_, ap, _∙_, sym}
+use mathlib.Core.Path.{ap, _∙_, sym}
 use borrow.Author.Tests.{eq-eqb, ne-eqb}
 use Rattle.seq.specs.declared.TransNo.{TransNo}
 use borrow.Author.Needs.{needs}

@@ -38,7 +38,8 @@ returns-2 c =
     let o = c .before .before in
     let s = o .before in
     let a = s .before .before .before .before .args in
-    rw (sym (c .before .is-ack .ensures) ∙ c .if2 .taken) at (chosen-some (a .words .now) (a .slots .now) (a .ack .now) _ (s .choose-refusal .ensures) (o .if1 .left))
+    let e = chosen-some (a .words .now) (a .slots .now) (a .ack .now) _ (s .choose-refusal .ensures) (o .if1 .left) in
+    rw (sym (c .before .is-ack .ensures) ∙ c .if2 .taken) at e
 
 oldest-held-requires : tie.Need-oldest-held-requires
 oldest-held-requires c κs = search needs
@@ -52,9 +53,10 @@ returns-3 c =
     let o = k .before .before in
     let s = o .before in
     let a = s .before .before .before .before .args in
+    let e = chosen-some (a .words .now) (a .slots .now) (a .ack .now) _ (s .choose-refusal .ensures) (o .if1 .left) in
     c .sealed-frame .ensures
     ∙ rw (c .before .oldest-held .ensures)
-    (rw (sym (k .before .is-ack .ensures) ∙ k .if2 .left) at (chosen-some (a .words .now) (a .slots .now) (a .ack .now) _ (s .choose-refusal .ensures) (o .if1 .left)))
+    (rw (sym (k .before .is-ack .ensures) ∙ k .if2 .left) at e)
 
 pub choose-next-spec : {M : Type 1} → statement M
 choose-next-spec =
