@@ -89,6 +89,40 @@ module _ (w : ℕ) (pos : 0 < w) where
       let e : from + (to + (w - from)) ≡ to + w = omega arith in
       add-mod-mod from (to + (w - from)) w ∙ rw (e, add-mod-right to w) (mod-eq-of-lt h)
 
+  -- ---- a number further on, and a start further on
+
+  -- the number i past `to` is i further
+  pub distance-further : (from to i : ℕ) → distance w from (advance w to i) ≡ advance w (distance w from to) i
+  unfolding distance advance
+  distance-further from to i =
+      let e : to + i + (w - from) ≡ to + (w - from) + i = omega arith in
+      mod-add-mod (to + i) w (w - from) ∙ ap (λ (n : ℕ). n % w) e ∙ sym (mod-add-mod (to + (w - from)) w i)
+
+  module _ (from to k : ℕ) (fits : from < w) where
+    same-number : (a : ℕ) → distance w a to ≡ distance w a ((from + distance w from to) % w)
+    unfolding distance
+    same-number a =
+        let e : from + (to + (w - from)) ≡ to + w = omega arith in
+        sym (mod-add-mod to w (w - a))
+        ∙ ap (λ (n : ℕ). (n + (w - a)) % w)
+        (sym (add-mod-mod from (to + (w - from)) w ∙ ap (λ (n : ℕ). n % w) e ∙ add-mod-right to w))
+
+    -- a start k further on, that does not pass `to`, is nearer to it by k
+    pub distance-nearer : k ≤ distance w from to → distance w (advance w from k) to ≡ distance w from to - k
+    unfolding advance
+    distance-nearer h =
+        let d : distance w from to < w = distance-lt from to in
+        same-number ((from + k) % w)
+        ∙ distance-ahead (from + k) (from + distance w from to) (omega arith) (omega arith) ∙ omega arith
+
+    -- and one that passes it has it behind
+    pub distance-passed : distance w from to < k → k ≤ w
+        → distance w (advance w from k) to ≡ w - (k - distance w from to)
+    unfolding advance
+    distance-passed h m =
+        same-number ((from + k) % w)
+        ∙ distance-behind (from + k) (from + distance w from to) (omega arith) (omega arith) ∙ omega arith
+
   -- ---- ranges of numbers
 
   -- the i-th number from the start on is in the range
