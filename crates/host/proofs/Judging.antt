@@ -14,7 +14,6 @@ use Rattle.wire.specs.declared.MessageHeader.{MessageHeader}
 use Rattle.wire.specs.Format.{needed}
 use Rattle.wire.proofs.Format.{needed-count}
 use Rattle.host.specs.declared.Open.{Open}
-use Rattle.host.specs.declared.Verdict.{Verdict}
 use Rattle.host.specs.Terms.{agrees, messageRefusal}
 use Rattle.host.proofs.Passing.{message-pass}
 use Rattle.host.specs.Transactions.{fills, refusing, closing, holding, decided, verdictOf}

@@ -38,7 +38,8 @@ terms-pass d closed o h len e = go (leb 32 d) refl (mark closed d) refl (agrees 
         absurd (omega arith)
     go false z false w true y = (leb-false 32 d z, w, y)
 
-pub message-pass : (d closed : ℕ) (o : Open) (h : MessageHeader) (len size : ℕ) → messageRefusal d closed o h len size ≡ 0
+pub message-pass : (d closed : ℕ) (o : Open) (h : MessageHeader) (len size : ℕ)
+    → messageRefusal d closed o h len size ≡ 0
     → (d < 32) × (mark closed d ≡ false) × (agrees o h ≡ true)
 message-pass d closed o h len size e =
     terms-pass d closed o h len (first-none (termsRefusal d closed o h len) (addressRefusal size h len) e)

@@ -43,6 +43,8 @@ use Rattle.host.specs.Host.{
   fine,
   wrong,
   takeAll,
+  settled,
+  afterFrame,
   accepting,
   concluded,
   tallyOf,
@@ -162,7 +164,8 @@ module _ (t : Transactions) (s : Orderly t) (i d : ℕ) (near : d < 32) (i-is : 
         closed-free = still-free;
       }
     where
-      still-free : (j : ℕ) → j < 32 → mark (t .closed) j ≡ true → getD (set (t .table) i o) ((t .lowest + j) % 32) free ≡ free
+      still-free : (j : ℕ) → j < 32 → mark (t .closed) j ≡ true
+          → getD (set (t .table) i o) ((t .lowest + j) % 32) free ≡ free
       still-free j l m =
           getD-set-other (t .table) i ((t .lowest + j) % 32) o free other ∙ s .closed-free j l m
         where
@@ -253,7 +256,8 @@ taken-keep y place (m ∷ ms) t s f e =
     v : Verdict
     v = verdict (y .transactions) (length (y .memory)) m
 
-    go : (Orderly (after (y .transactions) m v) → takeAll (takeIn y m v) (suc place) ms ≡ fine t → Orderly (t .transactions))
+    go : (Orderly (after (y .transactions) m v) → takeAll (takeIn y m v) (suc place) ms ≡ fine t
+        → Orderly (t .transactions))
         → (b : Bool) → eqb (v .refusal) 0 ≡ b → Orderly (t .transactions)
     go ih true z =
         ih (verdict-keeps (y .transactions) (length (y .memory)) m s (f .0) (eqb-true (v .refusal) 0 z)) (rw z at e)
@@ -306,7 +310,7 @@ opened-reachable own peer h k = go (eqb own 0) refl (eqb peer 0) refl
 
 accepting-reachable : (p : Pair) (num : ℕ) (t : Tally) → Reachable p → Orderly (t .transactions)
     → Reachable (accepting p num t .pair)
-unfolding accepting advance
+unfolding accepting afterFrame advance
 accepting-reachable p num t r s =
     record {
       own-fits = r .own-fits;
@@ -327,7 +331,7 @@ accepting-reachable p num t r s =
 byNumber-reachable : (p : Pair) (memory : List ℕ) (num : ℕ) (ms : List Message) → Reachable p → AllFit ms
     → Reachable (byNumber p memory num ms .pair)
 unfolding byNumber
-byNumber-reachable p memory num ms r f = go (leb 32768 d) refl (leb 64 d) refl (mark (p .marks) d) refl
+byNumber-reachable p memory num ms r f = go (settled p num) refl (leb 64 d) refl
   where
     d : ℕ
     d = distance frameSpace (p .next .0) num
@@ -336,12 +340,10 @@ byNumber-reachable p memory num ms r f = go (leb 32768 d) refl (leb 64 d) refl (
     taken (fine t) e = accepting-reachable p num t r (taken-keep (tallyOf p memory) 0 ms t (r .transactions) f e)
     taken (wrong n place) e = r
 
-    go : (a : Bool) → leb 32768 d ≡ a → (b : Bool) → leb 64 d ≡ b → (c : Bool) → mark (p .marks) d ≡ c
-        → Reachable (byNumber p memory num ms .pair)
-    go true x b y c z = rw x r
-    go false x true y c z = rw (x, y) r
-    go false x false y true z = rw (x, y, z) r
-    go false x false y false z = rw (x, y, z) (taken (takeAll (tallyOf p memory) 0 ms) refl)
+    go : (a : Bool) → settled p num ≡ a → (b : Bool) → leb 64 d ≡ b → Reachable (byNumber p memory num ms .pair)
+    go true x b y = rw x r
+    go false x true y = rw (x, y) r
+    go false x false y = rw (x, y) (taken (takeAll (tallyOf p memory) 0 ms) refl)
 
 pub receive-reachable : (p : Pair) (f memory : List ℕ) → Reachable p → Bytes f → Reachable (receiveOf p f memory .pair)
 receive-reachable p f memory r b = go (eqb (refusalOf (reading p f memory)) 0) refl (eqb (flags f) 0) refl

@@ -1,11 +1,11 @@
 -- The charging host: opening a pair, receiving a frame, and the acknowledgement that an answer calls for.
-use Prim.Native.Nat.{ℕ, zero, suc, _+_, _%_}
-use mathlib.Core.Bool.{Bool, true, false, cond, _||_}
+use Prim.Native.Nat.{ℕ, suc, _+_, _%_}
+use mathlib.Core.Bool.{Bool, cond, _||_, _&&_}
 use mathlib.Core.List.{List, [], _∷_}
 use lib.Dec.{eqb, leb, ltb}
 use lib.ListN.{length, replicate}
-use Rattle.seq.specs.Ring.{distance, frameSpace}
-use Rattle.bitmap.specs.Marks.{mark}
+use Rattle.seq.specs.Ring.{distance, advance, frameSpace}
+use Rattle.bitmap.specs.Marks.{mark, leading}
 use Rattle.bitmap.specs.Window.{markedAndMoved}
 use Rattle.octets.specs.Octets.{little, written}
 use Rattle.wire.specs.Format.{Message}
@@ -15,8 +15,6 @@ use Rattle.host.specs.Terms.{free}
 use Rattle.host.specs.declared.Verdict.{Verdict}
 use Rattle.host.specs.Transactions.{Transactions, verdict, after}
 use Rattle.host.specs.declared.Pair.{Pair}
-use Rattle.host.specs.declared.Refusal.{Refusal}
-use Rattle.host.specs.declared.Sums.{Sums}
 use Rattle.host.specs.declared.Opened.{Opened}
 use Rattle.host.specs.declared.Stepped.{Stepped}
 use Rattle.host.specs.declared.Range.{Range}
@@ -61,7 +59,8 @@ pub record Tally : Type 0 where
 -- A message's data is written, and straight after it the completion where the message completes its transaction.
 unfoldable pub effect : List ℕ → Message → Bool → List ℕ
 effect memory m done =
-    cond done (written (written memory (m .dataAddress) (m .bytes)) (m .completionAddress) (little 4 (m .completionValue))) (written memory (m .dataAddress) (m .bytes))
+    let filled = written memory (m .dataAddress) (m .bytes) in
+    cond done (written filled (m .completionAddress) (little 4 (m .completionValue))) filled
 
 unfoldable pub takeIn : Tally → Message → Verdict → Tally
 takeIn t m v = record {
@@ -98,24 +97,45 @@ unchanged p memory a = record { pair = p; memory = memory; answer = a }
 abbrev pub refused : ℕ → ℕ → Answer
 refused number place = Refused (record { number = number; place = place })
 
--- The frame's number is marked, and next moves past every consecutive accepted number.
-unfoldable pub accepting : Pair → ℕ → Tally → Received
-accepting p num t =
+-- A frame number d past the next one is in the window up to 63, behind from 32,768 on, and ahead between (behind and
+-- ahead are terms of the rules). Whether it is behind, or in the window and accepted.
+unfoldable pub settled : Pair → ℕ → Bool
+settled p num =
+    let d = distance frameSpace (p .next .0) num in
+    leb 32768 d || (ltb d 64 && mark (p .marks) d)
+
+-- The length of the longest run of numbers from `num` on in which each is behind or accepted, at most 255.
+unfoldable pub runFrom : Pair → ℕ → ℕ
+runFrom p num = leading (λ i. settled p (advance frameSpace num i)) 255
+
+-- The pair after a frame took effect: its number is marked, and next moves past every consecutive accepted number.
+unfoldable pub afterFrame : Pair → ℕ → Transactions → Pair
+afterFrame p num t =
     let window = markedAndMoved frameSpace 64 (p .next .0) (p .marks) num in
     record {
-      pair = record {
-        own = p .own;
-        peer = p .peer;
-        next = record { 0 = window .first };
-        marks = window .marks;
-        lowest = record { 0 = t .transactions .lowest };
-        closed = t .transactions .closed;
-        table = t .transactions .table;
-      };
+      own = p .own;
+      peer = p .peer;
+      next = record { 0 = window .first };
+      marks = window .marks;
+      lowest = record { 0 = t .lowest };
+      closed = t .closed;
+      table = t .table;
+    }
+
+-- An accepted frame acknowledges the run from its number on, as it is after the frame took effect.
+unfoldable pub accepting : Pair → ℕ → Tally → Received
+accepting p num t =
+    let next = afterFrame p num (t .transactions) in
+    record {
+      pair = next;
       memory = t .memory;
       answer = Accepted (record { 0 = num })
-          (record { messages = t .messages; bytes = t .bytes; completed = t .completed });
+          (record { messages = t .messages; bytes = t .bytes; completed = t .completed }) (runFrom next num);
     }
+
+-- A frame that comes again changes nothing, and acknowledges the run from its number on.
+abbrev pub again : Pair → List ℕ → ℕ → Received
+again p memory num = unchanged p memory (Again (record { 0 = num }) (runFrom p num))
 
 abbrev pub concluded : Pair → List ℕ → ℕ → Taken → Received
 concluded p memory num (fine t) = accepting p num t
@@ -127,16 +147,13 @@ transactionsOf p = record { lowest = p .lowest .0; closed = p .closed; table = p
 abbrev pub tallyOf : Pair → List ℕ → Tally
 tallyOf p memory = record { transactions = transactionsOf p; memory = memory; messages = 0; bytes = 0; completed = 0 }
 
--- A frame with messages, d past the next one: behind from 32,768 on, in the window up to 63 and ahead between (behind
--- and ahead are terms of the rules). What is behind, or in the window and accepted, is answered "again"; what is ahead
--- gets 6; else its messages are taken in.
+-- A frame with messages: what is behind, or in the window and accepted, is answered "again"; what else is not in the
+-- window is ahead and gets 6; else its messages are taken in.
 unfoldable pub byNumber : Pair → List ℕ → ℕ → List Message → Received
 byNumber p memory num ms =
-    let d = distance frameSpace (p .next .0) num in
-    cond (leb 32768 d) (unchanged p memory (Again (record { 0 = num })))
-    (cond (leb 64 d) (unchanged p memory (refused 6 0))
-    (cond (mark (p .marks) d) (unchanged p memory (Again (record { 0 = num })))
-    (concluded p memory num (takeAll (tallyOf p memory) 0 ms))))
+    cond (settled p num) (again p memory num)
+    (cond (leb 64 (distance frameSpace (p .next .0) num)) (unchanged p memory (refused 6 0))
+    (concluded p memory num (takeAll (tallyOf p memory) 0 ms)))
 
 abbrev pub answered : Pair → List ℕ → List ℕ → Read → Received
 answered p f memory (bad r) = unchanged p memory (refused r 0)
@@ -151,11 +168,11 @@ steppedOf r = record { pair = r .pair; answer = r .answer }
 
 -- ---- acknowledging
 
--- The frame numbers that an answer acknowledges: `count` of them from `start` on. Accepted and again acknowledge
--- exactly their own number.
+-- The frame numbers that an answer acknowledges: `count` of them from `start` on. Accepted and again acknowledge the
+-- run that they end with, from their own number on.
 abbrev pub rangeOf : Answer → Range
-rangeOf (Accepted n sums) = record { start = n; count = 1 }
-rangeOf (Again n) = record { start = n; count = 1 }
+rangeOf (Accepted n sums run) = record { start = n; count = run }
+rangeOf (Again n run) = record { start = n; count = run }
 rangeOf NoMessages = record { start = record { 0 = 0 }; count = 0 }
 rangeOf (Refused r) = record { start = record { 0 = 0 }; count = 0 }
 
@@ -172,15 +189,16 @@ acknowledgementOf p a num = acknowledgementFrom (p .own) (p .peer) a num
 
 -- ---- answers as numbers
 
--- Kind, number, messages, data bytes, completed transactions, refusal and place. The kinds are 1 for accepted, 2 for
--- again, 3 for no messages and 4 for refused; what a kind does not have is 0.
+-- Kind, number, messages, data bytes, completed transactions, refusal, place and run. The kinds are 1 for accepted, 2
+-- for again, 3 for no messages and 4 for refused; what a kind does not have is 0.
 abbrev pub answerWords : Answer → List ℕ
-answerWords (Accepted n sums) = 1 ∷ n .0 ∷ sums .messages ∷ sums .bytes ∷ sums .completed ∷ 0 ∷ 0 ∷ []
-answerWords (Again n) = 2 ∷ n .0 ∷ 0 ∷ 0 ∷ 0 ∷ 0 ∷ 0 ∷ []
-answerWords NoMessages = 3 ∷ 0 ∷ 0 ∷ 0 ∷ 0 ∷ 0 ∷ 0 ∷ []
-answerWords (Refused r) = 4 ∷ 0 ∷ 0 ∷ 0 ∷ 0 ∷ r .number ∷ r .place ∷ []
+answerWords (Accepted n sums run) = 1 ∷ n .0 ∷ sums .messages ∷ sums .bytes ∷ sums .completed ∷ 0 ∷ 0 ∷ run ∷ []
+answerWords (Again n run) = 2 ∷ n .0 ∷ 0 ∷ 0 ∷ 0 ∷ 0 ∷ 0 ∷ run ∷ []
+answerWords NoMessages = 3 ∷ 0 ∷ 0 ∷ 0 ∷ 0 ∷ 0 ∷ 0 ∷ 0 ∷ []
+answerWords (Refused r) = 4 ∷ 0 ∷ 0 ∷ 0 ∷ 0 ∷ r .number ∷ r .place ∷ 0 ∷ []
 
--- What is left of an answer in its kind and number, as far as it calls for an acknowledgement: accepted and again call
--- for one of the number, modulo 65,536, and no other kind does.
-abbrev pub answerOf : ℕ → ℕ → Answer
-answerOf kind num = cond (eqb kind 1 || eqb kind 2) (Again (record { 0 = num % frameSpace })) NoMessages
+-- What is left of an answer in its kind, number and run, as far as it calls for an acknowledgement: accepted and again
+-- call for one of the run, modulo 256, from the number on, modulo 65,536, and no other kind does.
+abbrev pub answerOf : ℕ → ℕ → ℕ → Answer
+answerOf kind num run =
+    cond (eqb kind 1 || eqb kind 2) (Again (record { 0 = num % frameSpace }) (run % 256)) NoMessages

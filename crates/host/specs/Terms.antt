@@ -15,7 +15,8 @@ free = record { count = 0; address = 0; value = 0; received = 0 }
 unfoldable pub agrees : Open → MessageHeader → Bool
 agrees o h =
     eqb (o .received) 0
-    || (eqb (o .count) (h .count) && (eqb (o .address) (h .«completion_address») && eqb (o .value) (h .«completion_value»)))
+    || (eqb (o .count) (h .count)
+    && (eqb (o .address) (h .«completion_address») && eqb (o .value) (h .«completion_value»)))
 
 -- Refusals 7 to 10 of a message with `len` data bytes, 0 for none. `d` is how far its transaction lies past the lowest
 -- one that is not complete, `closed` marks closed ones from there on, and `o` is its transaction's entry in the table.
@@ -28,7 +29,9 @@ termsRefusal d closed o h len =
 
 -- Refusals 11 and 12 against a memory of `size` bytes, 0 for none. The sums are over all numbers: nothing wraps.
 unfoldable pub addressRefusal : ℕ → MessageHeader → ℕ → ℕ
-addressRefusal size h len = cond (ltb size (h .«data_address» + len)) 11 (cond (ltb size (h .«completion_address» + 4)) 12 0)
+addressRefusal size h len =
+    cond (ltb size (h .«data_address» + len)) 11
+    (cond (ltb size (h .«completion_address» + 4)) 12 0)
 
 -- The first of two refusals that is one.
 abbrev pub firstOf : ℕ → ℕ → ℕ

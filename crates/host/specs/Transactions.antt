@@ -22,7 +22,12 @@ fills o h = eqb (needed (h .count)) (suc (o .received))
 -- A transaction's entry with one message more, which does not complete it. Received has 16 bits and counts modulo
 -- 65,536: in a pair that a run reaches it is below the count and does not come round.
 abbrev pub oneMore : Open → MessageHeader → Open
-oneMore o h = record { count = h .count; address = h .«completion_address»; value = h .«completion_value»; received = suc (o .received) % 65536 }
+oneMore o h = record {
+  count = h .count;
+  address = h .«completion_address»;
+  value = h .«completion_value»;
+  received = suc (o .received) % 65536;
+}
 
 -- What a message that is not refused leaves of its transaction's entry.
 abbrev pub leftIn : Open → MessageHeader → Open
@@ -31,7 +36,13 @@ leftIn o h = cond (fills o h) free (oneMore o h)
 -- The verdict on a message: refused and nothing changed; or its transaction is complete, so that it is closed and the
 -- window moves past consecutive closed ones; or it is open with one message more.
 unfoldable pub refusing : ℕ → ℕ → ℕ → Open → Verdict
-refusing r lowest closed o = record { refusal = r; done = false; lowest = record { 0 = lowest }; closed = closed; entry = o }
+refusing r lowest closed o = record {
+  refusal = r;
+  done = false;
+  lowest = record { 0 = lowest };
+  closed = closed;
+  entry = o;
+}
 
 unfoldable pub closing : ℕ → ℕ → ℕ → Verdict
 closing lowest closed d =

@@ -56,10 +56,11 @@ pub struct Sums {
     pub completed: u32,
 }
 
-// "Again" (a term of the rules) is a frame that was accepted before or lies behind.
+// "Again" (a term of the rules) is a frame that was accepted before or lies behind. Accepted and again end with the
+// length of the run of frame numbers that they acknowledge.
 pub enum Answer {
-    Accepted(FrameNo, Sums),
-    Again(FrameNo),
+    Accepted(FrameNo, Sums, u8),
+    Again(FrameNo, u8),
     NoMessages,
     Refused(Refusal),
 }
