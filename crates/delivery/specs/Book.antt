@@ -62,15 +62,11 @@ pub record AckRange : Type 0 where
 abbrev pub covers : AckRange → ℕ → Bool
 covers r n = leb (r .first) n && ltb n (r .first + r .many)
 
--- An answer acknowledges its own frame alone.
-abbrev pub oneFrame : ℕ → AckRange
-oneFrame c = record { first = c; many = 1 }
-
 -- The answer due to an arrival: accepted, with the frame's messages, data bytes and the transactions that it completes;
--- again; or one that is neither. The number is the frame's count.
+-- again; or one that is neither. The first number is the frame's count, the last how many frames are acknowledged.
 pub data Expected : Type 0 where
-  expectAccepted : ℕ → Sums → Expected
-  expectAgain : ℕ → Expected
+  expectAccepted : ℕ → Sums → ℕ → Expected
+  expectAgain : ℕ → ℕ → Expected
   expectNoEffect : Expected
 
 -- The starting memory, the transactions and the sealed frames in their order, the messages of the frame being built;
@@ -292,7 +288,15 @@ enterAck b (some r) = withFrames b (markWhere (covers r) markAcknowledged (b .fr
 unfoldable pub enterHandOut : Book → HandOut → Book
 enterHandOut b x = withTraffic b (b .handOuts ++ (x ∷ [])) (b .acksDue) (b .expected)
 
--- A copy of a sealed frame reaches the host: the first time it is accepted, each later time it is "again".
+-- The longest run of accepted frames starting at frame c, at most 255; and the acknowledgement of it.
+unfoldable pub acceptedRun : List FrameRecord → ℕ → ℕ
+acceptedRun frames c = leading (λ i. getD frames (c + i) noFrame .accepted) 255
+
+abbrev pub ackOf : List FrameRecord → ℕ → AckRange
+ackOf frames c = record { first = c; many = acceptedRun frames c }
+
+-- A copy of a sealed frame reaches the host: the first time it is accepted, each later time it is "again". Either
+-- answer acknowledges the run from that frame on, after the arrival.
 abbrev pub firstAnswer : Book → ℕ → List FrameRecord → Expected
 firstAnswer b c frames =
     let es = frameAt b c .messages in
@@ -302,12 +306,13 @@ firstAnswer b c frames =
       bytes = dataBytes es;
       completed = newlyComplete 0 (b .transactions) (acceptedMessages b) (messagesIn isAccepted frames);
     })
+    (acceptedRun frames c)
 
 unfoldable pub enterArrival : Book → ℕ → Book
 enterArrival b c =
     let frames = changeAt (b .frames) c markAccepted in
-    let answer = cond (frameAt b c .accepted) (expectAgain c) (firstAnswer b c frames) in
-    withTraffic (withFrames b frames (b .building)) (b .handOuts) (b .acksDue ++ (oneFrame c ∷ []))
+    let answer = cond (frameAt b c .accepted) (expectAgain c (acceptedRun frames c)) (firstAnswer b c frames) in
+    withTraffic (withFrames b frames (b .building)) (b .handOuts) (b .acksDue ++ (ackOf frames c ∷ []))
     (b .expected ++ (answer ∷ []))
 
 -- What reaches the host carries no message.

@@ -187,27 +187,27 @@ outcomeOf w = record { answers = w .answers; memory = w .memory; unreleasedFrame
 
 -- What an answer comes to. Which refusal is given to what carries no message is left open.
 unfoldable pub seenAs : Answer → Expected
-seenAs (Accepted n sums) = expectAccepted (n .0) sums
-seenAs (Again n) = expectAgain (n .0)
+seenAs (Accepted n sums run) = expectAccepted (n .0) sums run
+seenAs (Again n run) = expectAgain (n .0) run
 seenAs NoMessages = expectNoEffect
 seenAs (Refused r) = expectNoEffect
 
 -- The answer that the book expects, with the frame's number instead of its count.
 unfoldable pub numberedAs : Expected → Expected
-numberedAs (expectAccepted c sums) = expectAccepted (c % frameSpace) sums
-numberedAs (expectAgain c) = expectAgain (c % frameSpace)
+numberedAs (expectAccepted c sums run) = expectAccepted (c % frameSpace) sums run
+numberedAs (expectAgain c run) = expectAgain (c % frameSpace) run
 numberedAs expectNoEffect = expectNoEffect
 
 -- The k-th answer is the one to what arrived k-th, and the book's k-th line says of which frame that was a copy, if of
 -- any. So this is how often copies of frame c were answered "accepted".
 unfoldable pub copyOf : ℕ → Expected → Bool
-copyOf c (expectAccepted x sums) = eqb x c
-copyOf c (expectAgain x) = eqb x c
+copyOf c (expectAccepted x sums run) = eqb x c
+copyOf c (expectAgain x run) = eqb x c
 copyOf c expectNoEffect = false
 
 unfoldable pub saysAccepted : Answer → Bool
-saysAccepted (Accepted n sums) = true
-saysAccepted (Again n) = false
+saysAccepted (Accepted n sums run) = true
+saysAccepted (Again n run) = false
 saysAccepted NoMessages = false
 saysAccepted (Refused r) = false
 
@@ -220,8 +220,8 @@ timesAccepted c (a ∷ answers) (r ∷ arrivals) =
 -- Sums over the accepted answers.
 unfoldable pub sumOver : (Sums → ℕ) → List Answer → ℕ
 sumOver f [] = 0
-sumOver f (Accepted n sums ∷ answers) = f sums + sumOver f answers
-sumOver f (Again n ∷ answers) = sumOver f answers
+sumOver f (Accepted n sums run ∷ answers) = f sums + sumOver f answers
+sumOver f (Again n run ∷ answers) = sumOver f answers
 sumOver f (NoMessages ∷ answers) = sumOver f answers
 sumOver f (Refused r ∷ answers) = sumOver f answers
 

@@ -1,13 +1,13 @@
 -- Wrong ends: hosts and cards with one fault each, among them the buyer's older host. Nothing of this needs to be
 -- believed: the files of proofs/Wrong show that none of them meets demand 3, but for the card that adds nothing.
 use Prim.Native.Nat.{ℕ, suc, _%_}
-use mathlib.Core.Bool.{Bool, cond, _&&_}
+use mathlib.Core.Bool.{Bool, cond, _||_, _&&_}
 use mathlib.Core.List.{List, [], _∷_}
 use lib.Dec.{eqb, leb, ltb}
 use lib.ListN.{getD, take, drop}
 use lib.Seq.{sets}
-use Rattle.seq.specs.Ring.{distance, frameSpace, transSpace}
-use Rattle.bitmap.specs.Marks.{mark}
+use Rattle.seq.specs.Ring.{distance, advance, frameSpace, transSpace}
+use Rattle.bitmap.specs.Marks.{mark, leading}
 use Rattle.octets.specs.Octets.{field, little}
 use Rattle.wire.specs.Format.{Message}
 use Rattle.wire.specs.Reading.{number, flags, ackStart, addressed, Read, bad, good, readFrame}
@@ -21,6 +21,8 @@ use Rattle.host.specs.Host.{
   Received,
   unchanged,
   refused,
+  again,
+  runFrom,
   tallyOf,
   takeAll,
   concluded,
@@ -111,7 +113,7 @@ unfoldable pub refusesAll : Receiving
 refusesAll h f m = unchanged h m (refused 1 0)
 
 unfoldable pub againToAll : Receiving
-againToAll h f m = unchanged h m (Again (record { 0 = number f }))
+againToAll h f m = again h m (number f)
 
 -- Answers as the rules say, but only its first frame is written.
 unfoldable pub writesFirst : Receiving
@@ -122,13 +124,13 @@ writesFirst h f m =
 -- Takes its first frame, and merely acknowledges the rest.
 unfoldable pub acknowledgesRest : Receiving
 acknowledgesRest h f m =
-    cond (eqb (h .next .0) 0 && eqb (h .marks) 0) (receiveOf h f m) (unchanged h m (Again (record { 0 = number f })))
+    cond (eqb (h .next .0) 0 && eqb (h .marks) 0) (receiveOf h f m) (again h m (number f))
 
 -- Reports f of the messages, g of the bytes and k of the completed transactions.
 unfoldable pub reporting : (ℕ → ℕ) → (ℕ → ℕ) → (ℕ → ℕ) → Answer → Answer
-reporting f g k (Accepted n s) =
-    Accepted n (record { messages = f (s .messages); bytes = g (s .bytes); completed = k (s .completed) })
-reporting f g k (Again n) = Again n
+reporting f g k (Accepted n s run) =
+    Accepted n (record { messages = f (s .messages); bytes = g (s .bytes); completed = k (s .completed) }) run
+reporting f g k (Again n run) = Again n run
 reporting f g k NoMessages = NoMessages
 reporting f g k (Refused r) = Refused r
 
@@ -166,7 +168,7 @@ forgets h f m =
 -- away.
 unfoldable pub takesForOld : Receiving
 takesForOld h f m =
-    cond (eqb (h .marks) 0) (receiveOf h f m) (unchanged h m (Again (record { 0 = number f })))
+    cond (eqb (h .marks) 0) (receiveOf h f m) (again h m (number f))
 
 -- It writes the completion of its first message's transaction as soon as one message is left to come.
 unfoldable pub completesEarly : Receiving
@@ -187,17 +189,48 @@ neverCompletes h f m =
     let at = field f 14 4 in
     record { pair = r .pair; memory = sets (r .memory) at (take 4 (drop at m)); answer = r .answer }
 
--- It acknowledges the next number along with the one that it took.
+-- It acknowledges one number too many: the one behind the run.
 unfoldable pub acksTwo : Acknowledging
 acksTwo p a num = record {
   due = ltb 0 (rangeOf a .count);
   frame = ackFrame (p .peer) (p .own) num (rangeOf a .start .0) (suc (rangeOf a .count));
 }
 
+-- Its answers carry another run: k says which, of the pair before the frame and after it, and of the frame's number.
+unfoldable pub withRun : ℕ → Answer → Answer
+withRun run (Accepted n s old) = Accepted n s run
+withRun run (Again n old) = Again n run
+withRun run NoMessages = NoMessages
+withRun run (Refused r) = Refused r
+
+unfoldable pub judgesRun : (Pair → Pair → ℕ → ℕ) → Receiving
+judgesRun k h f m =
+    let r = receiveOf h f m in
+    record { pair = r .pair; memory = r .memory; answer = withRun (k h (r .pair) (number f)) (r .answer) }
+
+-- The frame alone; the run with one number too many; the run before the frame took effect; the accepted numbers in the
+-- window, without those behind.
+abbrev pub itsOwnOnly : Receiving
+itsOwnOnly = judgesRun (λ before after num. 1)
+
+abbrev pub oneTooMany : Receiving
+oneTooMany = judgesRun (λ before after num. suc (runFrom after num))
+
+abbrev pub beforeEffect : Receiving
+beforeEffect = judgesRun (λ before after num. runFrom before num)
+
+unfoldable pub marksFrom : Pair → ℕ → ℕ
+marksFrom p num =
+    leading
+    (λ i. let d = distance frameSpace (p .next .0) (advance frameSpace num i) in ltb d 64 && mark (p .marks) d) 255
+
+abbrev pub withoutBehind : Receiving
+withoutBehind = judgesRun (λ before after num. marksFrom after num)
+
 -- It does not acknowledge a frame that comes again.
 unfoldable pub silentOnAgain : Acknowledging
-silentOnAgain p (Again n) num = specifiedHost .acknowledging p NoMessages num
-silentOnAgain p (Accepted n s) num = specifiedHost .acknowledging p (Accepted n s) num
+silentOnAgain p (Again n run) num = specifiedHost .acknowledging p NoMessages num
+silentOnAgain p (Accepted n s run) num = specifiedHost .acknowledging p (Accepted n s run) num
 silentOnAgain p NoMessages num = specifiedHost .acknowledging p NoMessages num
 silentOnAgain p (Refused r) num = specifiedHost .acknowledging p (Refused r) num
 
@@ -258,10 +291,9 @@ plainlyBehind num next = ltb num next
 unfoldable pub numberedPlainly : Pair → List ℕ → ℕ → List Message → Received
 numberedPlainly p memory num ms =
     let d = distance frameSpace (p .next .0) num in
-    cond (plainlyBehind num (p .next .0)) (unchanged p memory (Again (record { 0 = num })))
+    cond (plainlyBehind num (p .next .0) || (ltb d 64 && mark (p .marks) d)) (again p memory num)
     (cond (leb 64 d) (unchanged p memory (refused 6 0))
-    (cond (mark (p .marks) d) (unchanged p memory (Again (record { 0 = num })))
-    (concluded p memory num (takeAll (tallyOf p memory) 0 ms))))
+    (concluded p memory num (takeAll (tallyOf p memory) 0 ms)))
 
 -- As the rules say (`answered`, `receiveOf`), with that.
 abbrev pub answeredPlainly : Pair → List ℕ → List ℕ → Read → Received

@@ -10,7 +10,17 @@ use Rattle.wire.specs.Reading.{addressed, follows, messageAt, messagesFrom, hea
 use Rattle.wire.specs.Writing.{frameHead, messageHead, laid, frameOf, roomFor, firstMessage, nextMessage}
 use Rattle.host.specs.Terms.{agrees, termsRefusal, addressRefusal}
 use Rattle.host.specs.Transactions.{fills, refusing, closing, holding, verdictOf, verdict, after}
-use Rattle.host.specs.Host.{effect, takeIn, takeAll, accepting, byNumber, receiveOf}
+use Rattle.host.specs.Host.{
+  effect,
+  takeIn,
+  takeAll,
+  settled,
+  runFrom,
+  afterFrame,
+  accepting,
+  byNumber,
+  receiveOf,
+}
 use Rattle.card.specs.Window.{emptyWindow}
 use Rattle.card.specs.Sendings.{noSendings, openingRefusal, opening, takes, adding}
 use Rattle.card.specs.Card.{
@@ -27,9 +37,10 @@ use Rattle.card.specs.Card.{
 use Rattle.edges.specs.Edges.{Case, added, result, cases}
 
 pub edges-hold : map (λ (c : Case). result (c .edge)) cases ≡ map (λ (c : Case). c .answer) cases
-unfolding distance advance mark withMark leading trailingOnes little value field inside written headOf nextHeader addressed
-    follows messageAt messagesFrom headingOf readFrame frameHead messageHead laid frameOf needed agrees termsRefusal addressRefusal fills
-    refusing closing holding verdictOf verdict after effect takeIn takeAll accepting byNumber receiveOf
-    emptyWindow noSendings openingRefusal opening takes adding freshCard fits openTransaction addRefusal roomFor firstMessage
-    nextMessage messageOf builtSlot builtSlots withMessage addMessage added
+unfolding distance advance mark withMark leading trailingOnes little value field inside written headOf nextHeader
+    addressed follows messageAt messagesFrom headingOf readFrame frameHead messageHead laid frameOf needed agrees
+    termsRefusal addressRefusal fills refusing closing holding verdictOf verdict after effect takeIn takeAll settled
+    runFrom afterFrame accepting byNumber receiveOf emptyWindow noSendings openingRefusal opening takes adding freshCard
+    fits openTransaction addRefusal roomFor firstMessage nextMessage messageOf builtSlot builtSlots withMessage
+    addMessage added
 edges-hold = refl

@@ -40,11 +40,11 @@ pub data Edge : Type 0 where
   -- a fresh card of this frame limit, a transaction of two data messages, and the data added to it, the latest first
   adds : (limit : ℕ) → List (List ℕ) → Edge
 
--- An accepted frame and one that comes again; a refusal by its number; a distance; header fields; a layout; where an added message's
--- header is.
+-- An accepted frame and one that comes again, each with the length of the run that it acknowledges; a refusal by its
+-- number; a distance; header fields; a layout; where an added message's header is.
 pub data Result : Type 0 where
-  taken : Result
-  again : Result
+  taken : ℕ → Result
+  again : ℕ → Result
   nothing : Result
   refused : ℕ → Result
   far : ℕ → Result
@@ -64,8 +64,8 @@ pairAt next lowest = record {
 }
 
 abbrev pub told : Answer → Result
-told (Accepted n sums) = taken
-told (Again n) = again
+told (Accepted n sums run) = taken run
+told (Again n run) = again run
 told NoMessages = nothing
 told (Refused r) = refused (r .number)
 
@@ -93,7 +93,14 @@ result (adds limit datas) = placed (added limit datas .step)
 -- One message without data, of a transaction of its own: where its completion goes and where its data would.
 abbrev pub bare : (number trans address at : ℕ) → List ℕ
 bare number trans address at =
-    frameOf 1 2 number (record { trans = trans; completionAddress = address; completionValue = 0; count = 0; dataAddress = at; bytes = [] } ∷ [])
+    frameOf 1 2 number (record {
+      trans = trans;
+      completionAddress = address;
+      completionValue = 0;
+      count = 0;
+      dataAddress = at;
+      bytes = [];
+    } ∷ [])
 
 abbrev pub numbered : ℕ → List ℕ
 numbered n = bare n 0 0 0
@@ -127,25 +134,26 @@ is e o = record { edge = e; answer = o }
 
 abbrev pub cases : List Case
 cases =
-    -- E1: from next 0 the frames 0 and 63 are in the window, 64 and 32,767 ahead, 32,768 behind
-    is (receives 0 0 4 (numbered 0)) taken
-    ∷ is (receives 0 0 4 (numbered 63)) taken
+    -- E1: from next 0 the frames 0 and 63 are in the window, 64 and 32,767 ahead, 32,768 behind. What is taken with
+    -- nothing accepted around it acknowledges its own number; of numbers behind a run has at most 255.
+    is (receives 0 0 4 (numbered 0)) (taken 1)
+    ∷ is (receives 0 0 4 (numbered 63)) (taken 1)
     ∷ is (receives 0 0 4 (numbered 64)) (refused 6)
     ∷ is (receives 0 0 4 (numbered 32767)) (refused 6)
-    ∷ is (receives 0 0 4 (numbered 32768)) again
+    ∷ is (receives 0 0 4 (numbered 32768)) (again 255)
     -- E2: from next 65,530 the frame 3 is 9 on
     ∷ is (measures 65530 3) (far 9)
-    ∷ is (receives 65530 0 4 (numbered 3)) taken
-    -- E3: from next 3 the frame 65,530 is behind
-    ∷ is (receives 3 0 4 (numbered 65530)) again
+    ∷ is (receives 65530 0 4 (numbered 3)) (taken 1)
+    -- E3: from next 3 the frame 65,530 is behind, and so are the eight after it
+    ∷ is (receives 3 0 4 (numbered 65530)) (again 9)
     -- E4: from the lowest transaction 4,294,967,290 the number 25 is in the window, and 26 is not
-    ∷ is (receives 0 4294967290 4 (bare 0 25 0 0)) taken
+    ∷ is (receives 0 4294967290 4 (bare 0 25 0 0)) (taken 1)
     ∷ is (receives 0 4294967290 4 (bare 0 26 0 0)) (refused 7)
     -- E5: in 68 bytes a completion fits at 64, and not at 65
-    ∷ is (receives 0 0 68 (bare 0 0 64 0)) taken
+    ∷ is (receives 0 0 68 (bare 0 0 64 0)) (taken 1)
     ∷ is (receives 0 0 68 (bare 0 0 65 0)) (refused 12)
     -- E6: in 68 bytes a write of none fits at 68, and not at 69
-    ∷ is (receives 0 0 68 (bare 0 0 0 68)) taken
+    ∷ is (receives 0 0 68 (bare 0 0 0 68)) (taken 1)
     ∷ is (receives 0 0 68 (bare 0 0 0 69)) (refused 11)
     -- E7: the 38 bytes read as a header from 2 to 1 and one message, the first 37 of them as cut
     ∷ is (heads wholeCase) (fields (1 ∷ 2 ∷ 0 ∷ 0 ∷ 0 ∷ 1 ∷ []))

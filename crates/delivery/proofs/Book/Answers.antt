@@ -24,8 +24,8 @@ match-more xs rs a r e q =
 
 -- how often the book expects a copy of frame c to be accepted
 unfoldable pub expects : ℕ → Expected → Bool
-expects c (expectAccepted x sums) = eqb x c
-expects c (expectAgain x) = false
+expects c (expectAccepted x sums run) = eqb x c
+expects c (expectAgain x run) = false
 expects c expectNoEffect = false
 
 unfoldable pub timesExpected : ℕ → List Expected → ℕ
@@ -42,21 +42,21 @@ times-more c (y ∷ ys) r =
 
 -- where the answers are those that the book expects, as often as that
 abbrev isFirst : Expected → Bool
-isFirst (expectAccepted x sums) = true
-isFirst (expectAgain x) = false
+isFirst (expectAccepted x sums run) = true
+isFirst (expectAgain x run) = false
 isFirst expectNoEffect = false
 
 first-seen : (a : Answer) → isFirst (seenAs a) ≡ saysAccepted a
 unfolding seenAs saysAccepted
-first-seen (Accepted n sums) = refl
-first-seen (Again n) = refl
+first-seen (Accepted n sums run) = refl
+first-seen (Again n run) = refl
 first-seen NoMessages = refl
 first-seen (Refused r) = refl
 
 first-expects : (c : ℕ) (r : Expected) → (isFirst (numberedAs r) && copyOf c r) ≡ expects c r
 unfolding numberedAs copyOf expects
-first-expects c (expectAccepted x sums) = refl
-first-expects c (expectAgain x) = refl
+first-expects c (expectAccepted x sums run) = refl
+first-expects c (expectAgain x run) = refl
 first-expects c expectNoEffect = refl
 
 pub times-seen : (c : ℕ) (xs : List Answer) (rs : List Expected) → map seenAs xs ≡ map numberedAs rs
@@ -74,19 +74,19 @@ times-seen c (a ∷ xs) (r ∷ rs) q =
 
 -- what an answer adds to a sum
 abbrev pub summand : (Sums → ℕ) → Answer → ℕ
-summand f (Accepted n sums) = f sums
-summand f (Again n) = 0
+summand f (Accepted n sums run) = f sums
+summand f (Again n run) = 0
 summand f NoMessages = 0
 summand f (Refused r) = 0
 
 pub sum-more : (f : Sums → ℕ) (xs : List Answer) (a : Answer) → sumOver f (xs ++ (a ∷ [])) ≡ sumOver f xs + summand f a
 unfolding sumOver
-sum-more f [] (Accepted n sums) = add-zero (f sums) ∙ sym (zero-add (f sums))
-sum-more f [] (Again n) = refl
+sum-more f [] (Accepted n sums run) = add-zero (f sums) ∙ sym (zero-add (f sums))
+sum-more f [] (Again n run) = refl
 sum-more f [] NoMessages = refl
 sum-more f [] (Refused r) = refl
-sum-more f (Accepted n sums ∷ zs) a =
+sum-more f (Accepted n sums run ∷ zs) a =
     ap (λ (t : ℕ). f sums + t) (sum-more f zs a) ∙ sym (add-assoc (f sums) (sumOver f zs) (summand f a))
-sum-more f (Again n ∷ zs) a = sum-more f zs a
+sum-more f (Again n run ∷ zs) a = sum-more f zs a
 sum-more f (NoMessages ∷ zs) a = sum-more f zs a
 sum-more f (Refused r ∷ zs) a = sum-more f zs a

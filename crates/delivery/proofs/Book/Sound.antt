@@ -1,15 +1,15 @@
 -- What holds of the book at all times, given that the card refused what the rules say; and what follows for an arriving
 -- frame. Assumes nothing.
-use Prim.Native.Nat.{ℕ, _+_, _≤_, _<_}
+use Prim.Native.Nat.{ℕ, _+_, _-_, _≤_, _<_}
 use native.Mathlib.Omega.{arith}
-use mathlib.Core.Path.{_≡_, refl}
-use mathlib.Core.Bool.{true, false, and-eq-true-iff}
+use mathlib.Core.Path.{_≡_, refl, sym, ap, _∙_}
+use mathlib.Core.Bool.{Bool, true, false, and-eq-true-iff}
 use borrow.Author.Tests.{le-leb, leb-true, lt-ltb, ltb-true}
 use lib.Dec.{leb, ltb}
 use mathlib.Core.List.{List, [], List·Memᴰ}
 use lib.ListN.{length, getD}
 use Rattle.bitmap.specs.Marks.{leading}
-use Rattle.bitmap.proofs.Marks.{leading-le, leading-holds, leading-mono, leading-fails}
+use Rattle.bitmap.proofs.Marks.{leading-le, leading-ge, leading-holds, leading-mono, leading-fails}
 use Rattle.wire.specs.Format.{needed}
 use Rattle.delivery.specs.Book.{
   Book,
@@ -18,7 +18,8 @@ use Rattle.delivery.specs.Book.{
   noFrame,
   AckRange,
   covers,
-  oneFrame,
+  acceptedRun,
+  ackOf,
   frameCopy,
   frameAt,
   transactionAt,
@@ -51,15 +52,31 @@ pub due-later : (frames frames′ : List FrameRecord)
 due-later frames frames′ stays r d =
     record { some = d .some; few = d .few; allAccepted = λ n c. stays n (d .allAccepted n c) }
 
--- the frames covered: the first, and of one alone no other
+-- the first is covered
 pub covers-first : (r : AckRange) → 0 < r .many → covers r (r .first) ≡ true
 covers-first r h = rw (le-leb (r .first) (r .first) (omega arith), lt-ltb (r .first) (r .first + r .many) (omega arith))
     refl
 
-pub covers-one : (c n : ℕ) → covers (oneFrame c) n ≡ true → n ≡ c
-covers-one c n e =
-    let k = and-eq-true-iff (leb c n) (ltb n (c + 1)) .0 e in
-    omega (arith, leb-true c n (k .0), ltb-true n (c + 1) (k .1))
+-- the acknowledgement of the run from an accepted frame on
+pub due-run : (frames : List FrameRecord) (c : ℕ) → getD frames c noFrame .accepted ≡ true
+    → DueFor frames (ackOf frames c)
+unfolding acceptedRun
+due-run frames c here = record {
+  some = leading-ge run 255 1 (omega arith)
+      (λ i h. let z : c + i ≡ c = omega arith in ap (λ (k : ℕ). getD frames k noFrame .accepted) z ∙ here);
+  few = omega (arith, leading-le run 255);
+  allAccepted = λ n e. inside n (and-eq-true-iff (leb c n) (ltb n (c + leading run 255)) .0 e);
+}
+  where
+    run : ℕ → Bool
+    run i = getD frames (c + i) noFrame .accepted
+
+    inside : (n : ℕ) → (leb c n ≡ true) × (ltb n (c + leading run 255) ≡ true) → getD frames n noFrame .accepted ≡ true
+    inside n k =
+        let l : c ≤ n = leb-true c n (k .0) in
+        let h : n < c + leading run 255 = ltb-true n (c + leading run 255) (k .1) in
+        let z : c + (n - c) ≡ n = omega arith in
+        sym (ap (λ (k : ℕ). getD frames k noFrame .accepted) z) ∙ leading-holds run 255 (n - c) (omega arith)
 
 pub record Sound (b : Book) : Type 0 where
   pub framesFit : length (b .frames) ≤ releasedCount b + 64

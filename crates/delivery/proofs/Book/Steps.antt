@@ -44,7 +44,7 @@ use Rattle.delivery.specs.Book.{
   Expected,
   AckRange,
   covers,
-  oneFrame,
+  ackOf,
   messagesIn,
   anyFrame,
   ofTransaction,
@@ -87,7 +87,7 @@ use Rattle.delivery.proofs.Book.Counts.{
   all-same,
 }
 use Rattle.delivery.proofs.Book.Writes.{ofTransaction-cons-same, ofTransaction-cons-other}
-use Rattle.delivery.proofs.Book.Sound.{DueFor, due-later, covers-first, covers-one, Sound, lowUnfinished}
+use Rattle.delivery.proofs.Book.Sound.{DueFor, due-later, covers-first, due-run, Sound, lowUnfinished}
 
 pub at-end : {A : Type 0} (xs : List A) (x d : A) (i : ℕ) → i < length (xs ++ (x ∷ []))
     → (i < length xs) ⊎ ((i ≡ length xs) × (getD (xs ++ (x ∷ [])) i d ≡ x))
@@ -509,11 +509,10 @@ module _ (b : Book) (s : Sound b) where
           go (yes q) = rw q here
           go (no n) = ap (λ (x : FrameRecord). x .accepted) (getD-change-other (b .frames) c i markAccepted n) ∙ e
 
-      due : (r : AckRange) → List·Memᴰ r (b .acksDue) ⊎ List·Memᴰ r (oneFrame c ∷ []) → DueFor marked r
+      due : (r : AckRange) → List·Memᴰ r (b .acksDue) ⊎ List·Memᴰ r (ackOf marked c ∷ []) → DueFor marked r
       due r (inl m) = due-later (b .frames) marked stays r (s .dueAccepted r m)
       due r (inr m) =
-          subst (DueFor marked) (sym (List·Memᴰ·eq-of-singleton m))
-          (record { some = omega arith; few = omega arith; allAccepted = λ n e. rw (covers-one c n e) here })
+          subst (DueFor marked) (sym (List·Memᴰ·eq-of-singleton m)) (due-run marked c here)
 
 pub sound-empty : (memory : List ℕ) → Sound (emptyBook memory)
 unfolding emptyBook messagesIn

@@ -92,7 +92,8 @@ ofTransaction-append i (x ∷ xs) ys = go (eqb (x .trans) i) (ofTransaction-appe
 pub dataOf-append : (xs ys : List MessageRecord) → dataWrites (xs ++ ys) ≡ dataWrites xs ++ dataWrites ys
 unfolding dataWrites
 dataOf-append [] ys = refl
-dataOf-append (x ∷ xs) ys = ap {B = List Write} (λ r. record { at = x .dataAddress; bytes = x .bytes } ∷ r) (dataOf-append xs ys)
+dataOf-append (x ∷ xs) ys =
+    ap {B = List Write} (λ r. record { at = x .dataAddress; bytes = x .bytes } ∷ r) (dataOf-append xs ys)
 
 pub ofTransaction-cons-other : (i : ℕ) (e : MessageRecord) (es : List MessageRecord) → e .trans ≢ i
     → ofTransaction i (e ∷ es) ≡ ofTransaction i es

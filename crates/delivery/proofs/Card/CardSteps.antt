@@ -379,12 +379,8 @@ module _ (cardId hostId : ℕ) (cardFits : cardId < frameSpace) (hostFits : host
       go (inr p) =
           let r = p .0 in
           let d = f .sound .dueAccepted r (p .2) in
-          let t : releasedCount b ≤ r .first + 32768 =
-          omega (
-            arith,
-            leb-true (releasedCount b) (r .first + ackLateMost)
-                (subst (λ (o : Option AckRange). ackInTime b o ≡ true) (p .1) late),
-          ) in
+          let l : ackInTime b (some r) ≡ true = subst (λ (o : Option AckRange). ackInTime b o ≡ true) (p .1) late in
+          let t : releasedCount b ≤ r .first + 32768 = omega (arith, leb-true) in
           rw (p .3, read-ack (r .first % frameSpace) (r .many) (mod-lt (r .first) (lit< tt)) (d .some) (d .few), p .1)
           (after-card cardId hostId w (enterAck b (some r)) (acknowledged c (r .first % frameSpace) (r .many)) slots
           (card-read c slots b (f .cardFor) (f .sound) r (p .2) t) (f .cardOwn) (f .cardPeer)

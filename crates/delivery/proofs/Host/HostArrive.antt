@@ -11,25 +11,43 @@ use lib.Dec.{lit<}
 use lib.ListN.{length, getD, List·getD-eq-default}
 use lib.Seq.{sets, length-sets}
 use Rattle.seq.specs.Ring.{distance, advance, frameSpace}
-use Rattle.seq.proofs.Ring.{host-late, host-window}
+use Rattle.seq.proofs.Ring.{distance-ahead, distance-behind, host-late, host-window}
 use Rattle.bitmap.specs.Marks.{mark, withMark, leading, trailingOnes}
-use Rattle.bitmap.proofs.Marks.{leading-le, leading-holds, mark-same, mark-other, window-moves, window-marks}
+use Rattle.bitmap.proofs.Marks.{
+  leading-le,
+  leading-holds,
+  leading-same,
+  mark-same,
+  mark-other,
+  window-moves,
+  window-marks,
+}
 use Rattle.wire.specs.Format.{Message}
 use Rattle.host.specs.declared.Pair.{Pair}
 use Rattle.host.specs.declared.Answer.{Answer}
-use Rattle.host.specs.declared.Answer.the-variants.{Accepted, Again}
+use Rattle.host.specs.declared.Answer.the-variants.{Accepted}
 use Rattle.host.specs.Host.{
   Tally,
   takeAll,
   Received,
-  unchanged,
+  again,
+  settled,
+  runFrom,
+  afterFrame,
   accepting,
   concluded,
   transactionsOf,
   tallyOf,
   byNumber,
 }
-use Rattle.host.proofs.Receiving.{by-number-behind, by-number-again, by-number-new}
+use Rattle.host.proofs.Receiving.{
+  settled-behind,
+  settled-ahead,
+  settled-window,
+  by-number-behind,
+  by-number-again,
+  by-number-new,
+}
 use Rattle.delivery.specs.Book.{
   MessageRecord,
   Transaction,
@@ -51,6 +69,7 @@ use Rattle.delivery.specs.Book.{
   dataBytes,
   changeAt,
   markAccepted,
+  acceptedRun,
   enterArrival,
 }
 use Rattle.delivery.specs.Demand3.{dataEnd, completionEnd, WritesAllowed}
@@ -71,6 +90,7 @@ use Rattle.delivery.proofs.Book.Sound.{
   low-le-low,
   released-le-lowest,
 }
+use Rattle.delivery.proofs.Book.Steps.{sound-arriving}
 use Rattle.delivery.proofs.Book.Sums.{
   sealedBefore,
   sealedAfter,
@@ -89,6 +109,47 @@ pub record HostFor (h : Pair) (b : Book) : Type 0 where
   pub nextIs : h .next .0 ≡ lowestNotAccepted b % frameSpace
   pub marksAre : (i : ℕ) → mark (h .marks) i ≡ frameAt b (lowestNotAccepted b + i) .accepted
   pub transactionsFor : TransactionsFor (transactionsOf h) (b .transactions) (acceptedMessages b)
+
+-- ---- the run that an answer acknowledges
+
+-- Numbers are behind or accepted at the host just where the frames are accepted in the book: from a frame on that is
+-- not too late, and for as many as a run can have.
+module _ (h : Pair) (b : Book) (r : HostFor h b) (s : Sound b) (c : ℕ) (inside : c < length (b .frames))
+    (inTime : lowestNotAccepted b ≤ c + 32768) where
+  abbrev awaited : ℕ
+  awaited = lowestNotAccepted b
+
+  reach : length (b .frames) ≤ awaited + 64
+  reach = omega (arith, s .framesFit, released-le-lowest b s)
+
+  settled-as : (i : ℕ) → i < 255 → settled h (advance frameSpace (c % frameSpace) i) ≡ frameAt b (c + i) .accepted
+  unfolding advance
+  settled-as i l = rw (mod-add-mod c frameSpace i) (go (decLt (c + i) awaited) (decLt (c + i) (awaited + 64)))
+    where
+      ahead : awaited ≤ c + i → c + i - awaited ≡ distance frameSpace (h .next .0) ((c + i) % frameSpace)
+      ahead k = rw (r .nextIs) (sym (distance-ahead frameSpace (lit< tt) awaited (c + i) k (omega (arith, reach))))
+
+      go : Dec (c + i < awaited) → Dec (c + i < awaited + 64)
+          → settled h ((c + i) % frameSpace) ≡ frameAt b (c + i) .accepted
+      go (yes k) m =
+          settled-behind h ((c + i) % frameSpace) (frameSpace - (awaited - (c + i)))
+          (rw (r .nextIs) (sym (distance-behind frameSpace (lit< tt) awaited (c + i) k (omega arith)))) (omega arith)
+          ∙ sym (leading-holds (λ k. frameAt b k .accepted) (length (b .frames)) (c + i) k)
+      go (no k) (yes m) =
+          let z : awaited + (c + i - awaited) ≡ c + i = omega arith in
+          settled-window h ((c + i) % frameSpace) (c + i - awaited) (ahead (omega arith)) (omega arith)
+          ∙ r .marksAre (c + i - awaited) ∙ ap (λ (n : ℕ). frameAt b n .accepted) z
+      go (no k) (no m) =
+          settled-ahead h ((c + i) % frameSpace) (c + i - awaited) (ahead (omega arith)) (omega arith)
+          (omega (arith, reach))
+          ∙ sym (ap (λ (x : FrameRecord). x .accepted)
+          (List·getD-eq-default (b .frames) noFrame (omega (arith, reach))))
+
+  pub run-agrees : runFrom h (c % frameSpace) ≡ acceptedRun (b .frames) c
+  unfolding runFrom acceptedRun
+  run-agrees =
+      leading-same (λ i. settled h (advance frameSpace (c % frameSpace) i)) (λ i. frameAt b (c + i) .accepted) 255
+      settled-as
 
 pub transactions-arriving : (b : Book) (c : ℕ) → enterArrival b c .transactions ≡ b .transactions
 unfolding enterArrival
@@ -118,10 +179,10 @@ module _ (h : Pair) (b : Book) (r : HostFor h b) (s : Sound b) (c : ℕ) (inside
       r .marksAre (c - lo) ∙ ap (λ (k : ℕ). frameAt b k .accepted) z
 
   pub answers-again : frameAt b c .accepted ≡ true
-      → byNumber h memory num ms ≡ unchanged h memory (Again (record { 0 = num }))
+      → byNumber h memory num ms ≡ again h memory num
   answers-again a = go (decLt c lo)
     where
-      go : Dec (c < lo) → byNumber h memory num ms ≡ unchanged h memory (Again (record { 0 = num }))
+      go : Dec (c < lo) → byNumber h memory num ms ≡ again h memory num
       go (yes l) =
           let far : 65536 - 32768 ≤ dist = rw (r .nextIs)
           (host-late frameSpace (lit< tt) 32768 lo c (omega arith) l inTime) in
@@ -200,8 +261,8 @@ module _ (h : Pair) (b : Book) (r : HostFor h b) (s : Sound b) (c : ℕ) (inside
 
     pub host-accepting : (t : Tally) → TransactionsFor (t .transactions) (b .transactions)
         (acceptedMessages (enterArrival b c))
-        → HostFor (accepting h num t .pair) (enterArrival b c)
-    unfolding accepting advance marked accepted′
+        → HostFor (afterFrame h num (t .transactions)) (enterArrival b c)
+    unfolding afterFrame advance marked accepted′
     host-accepting t lf = record {
       nextIs =
           ap (λ (n : ℕ). (n + trailingOnes 64 marked) % frameSpace) (r .nextIs)
@@ -310,14 +371,29 @@ module _ (h : Pair) (b : Book) (r : HostFor h b) (s : Sound b) (c : ℕ) (kept :
           (subst (List·Memᴰ e) (added-arriving b c)
           (Memᴰ·append-left (enterArrival b c .building) (messagesIn-some isAccepted (enterArrival b c .frames) e m)))
 
-  abbrev answer-with : ℕ → ℕ → ℕ → Answer
-  answer-with messages bytes completed =
-      Accepted (record { 0 = c % frameSpace }) (record { messages = messages; bytes = bytes; completed = completed })
+  abbrev frames′ : List FrameRecord
+  frames′ = changeAt (b .frames) c markAccepted
 
-  same : (x : Pair) {m m′ : List ℕ} {k k′ y y′ d d′ : ℕ} → m ≡ m′ → k ≡ k′ → y ≡ y′ → d ≡ d′
-      → _≡_ {A = Received} (record { pair = x; memory = m; answer = answer-with k y d })
-      (record { pair = x; memory = m′; answer = answer-with k′ y′ d′ })
-  same x p q u v = λ i. record { pair = x; memory = p i; answer = answer-with (q i) (u i) (v i) }
+  -- the run of the host after the frame took effect
+  run-after : (x : Pair) → HostFor x (enterArrival b c) → runFrom x (c % frameSpace) ≡ acceptedRun frames′ c
+  unfolding enterArrival
+  run-after x xFor =
+      let l : length frames′ ≡ length (b .frames) = length-change (b .frames) c markAccepted in
+      let m : lowestNotAccepted (enterArrival b c) ≤ length frames′ =
+      leading-le (λ k. getD frames′ k noFrame .accepted) (length frames′) in
+      let w : lowestNotAccepted b ≤ c = frame-window b s c inside isNew .0 in
+      let f : length (b .frames) ≤ lowestNotAccepted b + 64 = omega (arith, s .framesFit, released-le-lowest b s) in
+      run-agrees x (enterArrival b c) xFor (sound-arriving b s c inside) c (omega arith) (omega arith)
+
+  abbrev answer-with : ℕ → ℕ → ℕ → ℕ → Answer
+  answer-with messages bytes completed run =
+      Accepted (record { 0 = c % frameSpace })
+      (record { messages = messages; bytes = bytes; completed = completed }) run
+
+  same : (x : Pair) {m m′ : List ℕ} {k k′ y y′ d d′ n n′ : ℕ} → m ≡ m′ → k ≡ k′ → y ≡ y′ → d ≡ d′ → n ≡ n′
+      → _≡_ {A = Received} (record { pair = x; memory = m; answer = answer-with k y d n })
+      (record { pair = x; memory = m′; answer = answer-with k′ y′ d′ n′ })
+  same x p q u v w = λ i. record { pair = x; memory = p i; answer = answer-with (q i) (u i) (v i) (w i) }
 
   -- the answer, memory, and state
   pub record FirstAnswer : Type 0 where
@@ -329,27 +405,37 @@ module _ (h : Pair) (b : Book) (r : HostFor h b) (s : Sound b) (c : ℕ) (kept :
         ≡ record {
           pair = next;
           memory = bookMemory (enterArrival b c);
-          answer = answer-with (length es) (dataBytes es) (completedAll (b .transactions) pre es post);
+          answer =
+              answer-with (length es) (dataBytes es) (completedAll (b .transactions) pre es post)
+              (acceptedRun frames′ c);
         }
 
   pub answers-first : FirstAnswer
-  unfolding accepting
+  unfolding accepting afterFrame
   answers-first = go first-taken
     where
+      next : FrameTaken (b .transactions) pre es post 0 (tallyOf h (bookMemory b)) → Pair
+      next f = afterFrame h (c % frameSpace) (f .end .transactions)
+
+      nextFor : (f : FrameTaken (b .transactions) pre es post 0 (tallyOf h (bookMemory b)))
+          → HostFor (next f) (enterArrival b c)
+      nextFor f =
+          host-accepting h b r s c inside inTime (bookMemory b) ms isNew (f .end)
+          (subst (TransactionsFor (f .end .transactions) (b .transactions))
+          (sym (messages-after b s c inside isNew))
+          (f .transactionsFor))
+
       go : FrameTaken (b .transactions) pre es post 0 (tallyOf h (bookMemory b)) → FirstAnswer
       go f = record {
-        next = accepting h (c % frameSpace) (f .end) .pair;
-        nextFor =
-            host-accepting h b r s c inside inTime (bookMemory b) ms isNew (f .end)
-            (subst (TransactionsFor (f .end .transactions) (b .transactions))
-            (sym (messages-after b s c inside isNew))
-            (f .transactionsFor));
+        next = next f;
+        nextFor = nextFor f;
         sameOwn = refl;
         samePeer = refl;
         answered =
             judges h b r s c inside inTime (bookMemory b) ms isNew
             ∙ ap (concluded h (bookMemory b) (c % frameSpace)) (f .isFine)
-            ∙ same (accepting h (c % frameSpace) (f .end) .pair)
+            ∙ same (next f)
             (f .memoryIs ∙ sym (memory-arriving b s c inside isNew (kept .apart)))
-            (f .messagesAre ∙ zero-add _) (f .bytesAre ∙ zero-add _) (f .completeAre ∙ zero-add _);
+            (f .messagesAre ∙ zero-add _) (f .bytesAre ∙ zero-add _) (f .completeAre ∙ zero-add _)
+            (run-after (next f) (nextFor f));
       }

@@ -142,7 +142,11 @@ module _ (l : Transactions) (ds : List Transaction) (es : List MessageRecord) (r
 
     addresses-fine : addressRefusal size (headOf (wired ds e)) (length (e .bytes)) ≡ 0
     unfolding addressRefusal headOf
-    addresses-fine = rw (le-ltb size (e .dataAddress + length (e .bytes)) dataIn, le-ltb size (d .completionAddress + 4) completionIn)
+    addresses-fine =
+        rw (
+          le-ltb size (e .dataAddress + length (e .bytes)) dataIn,
+          le-ltb size (d .completionAddress + 4) completionIn,
+        )
 
     -- the message is not refused: it closes its transaction, or the transaction is held with one message more
     pub verdict-is : verdict l size (wired ds e)

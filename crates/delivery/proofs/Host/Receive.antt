@@ -20,7 +20,7 @@ use mathlib.Core.List.{
   Memᴰ·append-left,
 }
 use mathlib.Core.Option.{Option, some}
-use borrow.Author.Tests.{eq-eqb, ne-eqb, leb-true}
+use borrow.Author.Tests.{eq-eqb, ne-eqb, leb-true, lt-ltb}
 use lib.Dec.{eqb, lit<}
 use lib.ListN.{length, getD, getElem?}
 use Rattle.seq.specs.Ring.{frameSpace}
@@ -33,7 +33,7 @@ use Rattle.host.specs.declared.Pair.{Pair}
 use Rattle.host.specs.declared.Sums.{Sums}
 use Rattle.host.specs.declared.Answer.{Answer}
 use Rattle.host.specs.declared.Answer.the-variants.{Accepted, Again, NoMessages}
-use Rattle.host.specs.Host.{unchanged, refused, byNumber, receiveOf, rangeOf, acknowledgementFrom}
+use Rattle.host.specs.Host.{unchanged, refused, again, byNumber, receiveOf, rangeOf, acknowledgementFrom}
 use Rattle.host.proofs.Receiving.{received-refused, received-none, received-good}
 use Rattle.delivery.specs.Book.{
   MessageRecord,
@@ -60,7 +60,8 @@ use Rattle.delivery.specs.Book.{
   dataBytes,
   completeCount,
   newlyComplete,
-  oneFrame,
+  acceptedRun,
+  ackOf,
   anyFrame,
   withFrames,
   withTraffic,
@@ -103,6 +104,7 @@ use Rattle.delivery.proofs.Book.Counts.{
   same-changed,
   messagesIn-same,
 }
+use Rattle.delivery.proofs.Book.Sound.{due-run}
 use Rattle.delivery.proofs.Book.Steps.{sound-ignoring, sound-arriving}
 use Rattle.delivery.proofs.Book.Sums.{
   sealedBefore,
@@ -120,6 +122,7 @@ use Rattle.delivery.proofs.Host.HostArrive.{
   HostFor,
   transactions-arriving,
   added-arriving,
+  run-agrees,
   answers-again,
   answers-first,
 }
@@ -292,15 +295,23 @@ module _ (cardId hostId : ℕ) (cardFits : cardId < frameSpace) (hostFits : host
         (messagesIn-same anyFrame (b .frames) frames′ same (λ i. refl))
         (w .card) (w .slots) (f .cardFor)
 
-    -- accepted and again call for the acknowledgement of the frame's number
+    abbrev run : ℕ
+    run = acceptedRun frames′ c
+
+    some-run : 0 < run
+    some-run =
+        due-run frames′ c
+        (ap (λ (y : FrameRecord). y .accepted) (getD-change-same (b .frames) c markAccepted inside)) .some
+
+    -- accepted and again call for the acknowledgement of the run from the frame's number on
     acks-now : (x : Pair) (a : Answer) → x .own ≡ hostId → x .peer ≡ cardId → rangeOf a
-        ≡ record { start = record { 0 = num }; count = 1 }
+        ≡ record { start = record { 0 = num }; count = run }
         → Along (Acknowledges cardId hostId) (w .acks ++ acksFor specifiedHost x a) (b′ .acksDue)
     unfolding enterArrival acksFor acknowledgementFrom
     acks-now x a o p q =
-        rw (o, p, q)
-        (along-more (Acknowledges cardId hostId) (w .acks) (b .acksDue) (ackFrame cardId hostId 0 num 1) (oneFrame c)
-        (f .rest .traffic .acksAre) refl)
+        rw (o, p, q, lt-ltb 0 run some-run)
+        (along-more (Acknowledges cardId hostId) (w .acks) (b .acksDue) (ackFrame cardId hostId 0 num run)
+        (ackOf frames′ c) (f .rest .traffic .acksAre) refl)
 
     all-fit : (xs : List MessageRecord) → ((e : MessageRecord) → List·Memᴰ e xs → List·Memᴰ e (addedMessages b))
         → AllFit (map (wired (b .transactions)) xs)
@@ -355,25 +366,25 @@ module _ (cardId hostId : ℕ) (cardFits : cardId < frameSpace) (hostFits : host
       same-frames : frames′ ≡ b .frames
       same-frames = change-same (b .frames) c old
 
-      expected-again : b′ .expected ≡ b .expected ++ (expectAgain c ∷ [])
+      expected-again : b′ .expected ≡ b .expected ++ (expectAgain c run ∷ [])
       unfolding enterArrival
       expected-again = rw old
 
       -- the book but for its traffic
       abbrev book : List FrameRecord → Book
       book ss =
-          withTraffic (withFrames b ss (b .building)) (b .handOuts) (b .acksDue ++ (oneFrame c ∷ []))
-          (b .expected ++ (expectAgain c ∷ []))
+          withTraffic (withFrames b ss (b .building)) (b .handOuts) (b .acksDue ++ (ackOf frames′ c ∷ []))
+          (b .expected ++ (expectAgain c run ∷ []))
 
       arrival-is : b′ ≡ book (b .frames)
       unfolding enterArrival
       arrival-is = rw (old, same-frames)
 
-      abbrev again : Answer
-      again = Again (record { 0 = num })
+      abbrev old-answer : Answer
+      old-answer = Again (record { 0 = num }) run
 
-      rest-again : Rest cardId hostId h (w .memory) (w .handOuts) (w .acks ++ acksFor specifiedHost h again)
-          (w .answers ++ (again ∷ [])) (book (b .frames))
+      rest-again : Rest cardId hostId h (w .memory) (w .handOuts) (w .acks ++ acksFor specifiedHost h old-answer)
+          (w .answers ++ (old-answer ∷ [])) (book (b .frames))
       unfolding bookMemory expects seenAs numberedAs
       rest-again = record {
         hostFor = record {
@@ -389,17 +400,18 @@ module _ (cardId hostId : ℕ) (cardFits : cardId < frameSpace) (hostFits : host
               copies-alike cardId hostId b (book (b .frames)) (w .handOuts) (b .handOuts) (λ n m. refl)
               (f .rest .traffic .copies);
           acksAre =
-              subst (λ (y : Book). Along (Acknowledges cardId hostId) (w .acks ++ acksFor specifiedHost h again)
+              subst (λ (y : Book). Along (Acknowledges cardId hostId) (w .acks ++ acksFor specifiedHost h old-answer)
               (y .acksDue))
               arrival-is
-              (acks-now h again (f .rest .hostOwn) (f .rest .hostPeer) refl);
-          matching = match-more (w .answers) (b .expected) again (expectAgain c) (f .rest .traffic .matching) refl;
-          once = λ k. times-more k (b .expected) (expectAgain c) ∙ add-zero _ ∙ f .rest .traffic .once k;
+              (acks-now h old-answer (f .rest .hostOwn) (f .rest .hostPeer) refl);
+          matching =
+              match-more (w .answers) (b .expected) old-answer (expectAgain c run) (f .rest .traffic .matching) refl;
+          once = λ k. times-more k (b .expected) (expectAgain c run) ∙ add-zero _ ∙ f .rest .traffic .once k;
         };
         sums = record {
-          messagesAre = sum-more (λ s. s .messages) (w .answers) again ∙ add-zero _ ∙ f .rest .sums .messagesAre;
-          bytesAre = sum-more (λ s. s .bytes) (w .answers) again ∙ add-zero _ ∙ f .rest .sums .bytesAre;
-          completeAre = sum-more (λ s. s .completed) (w .answers) again ∙ add-zero _ ∙ f .rest .sums .completeAre;
+          messagesAre = sum-more (λ s. s .messages) (w .answers) old-answer ∙ add-zero _ ∙ f .rest .sums .messagesAre;
+          bytesAre = sum-more (λ s. s .bytes) (w .answers) old-answer ∙ add-zero _ ∙ f .rest .sums .bytesAre;
+          completeAre = sum-more (λ s. s .completed) (w .answers) old-answer ∙ add-zero _ ∙ f .rest .sums .completeAre;
         };
         typed = record {
           termsTyped = f .rest .typed .termsTyped;
@@ -407,14 +419,14 @@ module _ (cardId hostId : ℕ) (cardFits : cardId < frameSpace) (hostFits : host
         };
       }
 
-      after-again : For (answering h (w .memory) again) b′
+      after-again : For (answering h (w .memory) old-answer) b′
       after-again = record {
         cardFor = card-arriving;
         cardOwn = f .cardOwn;
         cardPeer = f .cardPeer;
         rest =
-            subst (Rest cardId hostId h (w .memory) (w .handOuts) (w .acks ++ acksFor specifiedHost h again)
-            (w .answers ++ (again ∷ [])))
+            subst (Rest cardId hostId h (w .memory) (w .handOuts) (w .acks ++ acksFor specifiedHost h old-answer)
+            (w .answers ++ (old-answer ∷ [])))
             (sym arrival-is) rest-again;
         sound = sound-arriving b (f .sound) c inside;
       }
@@ -435,7 +447,7 @@ module _ (cardId hostId : ℕ) (cardFits : cardId < frameSpace) (hostFits : host
       }
 
       abbrev answer : Answer
-      answer = Accepted (record { 0 = num }) sums
+      answer = Accepted (record { 0 = num }) sums run
 
       completed-is : completedAll (b .transactions) pre es post
           ≡ newlyComplete 0 (b .transactions) (acceptedMessages b) (messagesIn isAccepted frames′)
@@ -455,11 +467,11 @@ module _ (cardId hostId : ℕ) (cardFits : cardId < frameSpace) (hostFits : host
               )
               (omega (arith, count-append j pre post, count-append j pre (es ++ post), count-append j es post))
 
-      expected-first : b′ .expected ≡ b .expected ++ (expectAccepted c sums ∷ [])
+      expected-first : b′ .expected ≡ b .expected ++ (expectAccepted c sums run ∷ [])
       unfolding enterArrival
       expected-first = rw (isNew, completed-is)
 
-      times-here : (k : ℕ) → cond (frameAt b k .accepted) 1 0 + cond (expects k (expectAccepted c sums)) 1 0
+      times-here : (k : ℕ) → cond (frameAt b k .accepted) 1 0 + cond (expects k (expectAccepted c sums run)) 1 0
           ≡ cond (frameAt b′ k .accepted) 1 0
       unfolding expects enterArrival
       times-here k = go (ℕ-discrete c k)
@@ -514,12 +526,12 @@ module _ (cardId hostId : ℕ) (cardFits : cardId < frameSpace) (hostFits : host
             copies = copies-now;
             acksAre = acks-now x answer o p refl;
             matching =
-                rw expected-first (match-more (w .answers) (b .expected) answer (expectAccepted c sums)
+                rw expected-first (match-more (w .answers) (b .expected) answer (expectAccepted c sums run)
                 (f .rest .traffic .matching) refl);
             once = λ k.
                 rw expected-first
-                (times-more k (b .expected) (expectAccepted c sums)
-                ∙ ap (λ (n : ℕ). n + cond (expects k (expectAccepted c sums)) 1 0) (f .rest .traffic .once k)
+                (times-more k (b .expected) (expectAccepted c sums run)
+                ∙ ap (λ (n : ℕ). n + cond (expects k (expectAccepted c sums run)) 1 0) (f .rest .traffic .once k)
                 ∙ times-here k);
           };
           sums = record {
@@ -566,7 +578,10 @@ module _ (cardId hostId : ℕ) (cardFits : cardId < frameSpace) (hostFits : host
       go true e =
           rw (got
           ∙ answers-again h b (f .rest .hostFor) (f .sound) c inside late (bookMemory b) ms e
-          ∙ ap (λ (m : List ℕ). unchanged h m (Again (record { 0 = c % frameSpace }))) (sym (f .rest .memoryIs)))
+          ∙ ap (λ (m : List ℕ). again h m (c % frameSpace)) (sym (f .rest .memoryIs))
+          ∙ ap (λ (n : ℕ). unchanged h (w .memory) (Again (record { 0 = c % frameSpace }) n))
+          (run-agrees h b (f .rest .hostFor) (f .sound) c inside late
+          ∙ ap (λ (l : List FrameRecord). acceptedRun l c) (sym (same-frames c inside e))))
           (after-again c inside e)
       go false e =
           let t = answers-first h b (f .rest .hostFor) (f .sound) c kept

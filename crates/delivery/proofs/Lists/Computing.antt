@@ -8,7 +8,20 @@ use Rattle.wire.specs.Reading.{addressed, follows, messageAt, messagesFrom, hea
 use Rattle.wire.specs.Writing.{frameHead, messageHead, laid, frameOf, ackFrame, roomFor, firstMessage, nextMessage}
 use Rattle.host.specs.Terms.{agrees, termsRefusal, addressRefusal}
 use Rattle.host.specs.Transactions.{fills, refusing, closing, holding, verdictOf, verdict, after}
-use Rattle.host.specs.Host.{fresh, openedOf, effect, takeIn, takeAll, accepting, byNumber, receiveOf, acknowledgementFrom}
+use Rattle.host.specs.Host.{
+  fresh,
+  openedOf,
+  effect,
+  takeIn,
+  takeAll,
+  settled,
+  runFrom,
+  afterFrame,
+  accepting,
+  byNumber,
+  receiveOf,
+  acknowledgementFrom,
+}
 use Rattle.card.specs.Window.{emptyWindow, held, beforeHeld, sealing, acknowledgedBy, releasing, acknowledging}
 use Rattle.card.specs.Sendings.{
   noSendings,
@@ -70,6 +83,7 @@ use Rattle.delivery.specs.Book.{
   markWhere,
   enterAck,
   enterHandOut,
+  acceptedRun,
   enterArrival,
   enterNoEffect,
   enterDelivery,
@@ -100,16 +114,15 @@ use Rattle.delivery.proofs.Lists.Check.{every, below, apart, noByteTwic
 unfoldable pub computing : Unit {0}
 unfolding distance advance latest mark withMark leading trailingOnes marksOf little value field inside written headOf
     needed nextHeader addressed follows messageAt messagesFrom headingOf readFrame frameHead messageHead laid frameOf
-    ackFrame
-    roomFor firstMessage nextMessage agrees termsRefusal addressRefusal fills refusing closing holding verdictOf
-    verdict after fresh openedOf effect takeIn takeAll accepting byNumber receiveOf acknowledgementFrom emptyWindow held
-    beforeHeld sealing acknowledgedBy releasing acknowledging noSendings openingRefusal opening takes adding delivered
-    finishedBy passing finishing freshCard fits cardRefusal openCard openTransaction addRefusal messageOf builtSlot
-    builtSlots withMessage addMessage sealRefusal sealFrame acknowledged readAcks frameIn showRefusal showFrame
-    chooseRefusal chooseNext byCard acksFor byHost step run initial messagesIn ofTransaction allMessagesIn complete
-    finished unfinishedFrom unfinished perform dataWrites completionWrite writesOf bookWrites bookMemory serialWrites
-    serialMemory dataBytes completeCount newlyComplete enterOpening enterMessage enterSealing changeAt markWhere
-    enterAck enterHandOut enterArrival enterNoEffect enterDelivery shown chosen enter bookFrom emptyBook typed allTyped
-    frameInTime ackInTime inTime notTooLate seenAs numberedAs copyOf saysAccepted timesAccepted sumOver neededBy bytesBy
-    every below apart noByteTwice writesAllowed passes
+    ackFrame roomFor firstMessage nextMessage agrees termsRefusal addressRefusal fills refusing closing holding
+    verdictOf verdict after fresh openedOf effect takeIn takeAll settled runFrom afterFrame accepting byNumber receiveOf
+    acknowledgementFrom emptyWindow held beforeHeld sealing acknowledgedBy releasing acknowledging noSendings
+    openingRefusal opening takes adding delivered finishedBy passing finishing freshCard fits cardRefusal openCard
+    openTransaction addRefusal messageOf builtSlot builtSlots withMessage addMessage sealRefusal sealFrame acknowledged
+    readAcks frameIn showRefusal showFrame chooseRefusal chooseNext byCard acksFor byHost step run initial messagesIn
+    ofTransaction allMessagesIn complete finished unfinishedFrom unfinished perform dataWrites completionWrite writesOf
+    bookWrites bookMemory serialWrites serialMemory dataBytes completeCount newlyComplete enterOpening enterMessage
+    enterSealing changeAt markWhere enterAck acceptedRun enterHandOut enterArrival enterNoEffect enterDelivery shown
+    chosen enter bookFrom emptyBook typed allTyped frameInTime ackInTime inTime notTooLate seenAs numberedAs copyOf
+    saysAccepted timesAccepted sumOver neededBy bytesBy every below apart noByteTwice writesAllowed passes
 computing = tt

@@ -2,7 +2,7 @@
 -- late. Up to 32,768 the list meets the premises, and demand 3 gives that the frame is answered "again", counted once
 -- and not written again, and released once. At 32,769 the premise fails; the copy's number then lies ahead of the
 -- host's window, and the host refuses it with 6; the card does nothing about the acknowledgement. Assumes nothing.
-use Prim.Native.Nat.{ℕ, zero, suc, _+_, _-_, _≤_, _<_}
+use Prim.Native.Nat.{ℕ, zero, suc, _+_, _-_, _≤_, _<_, min}
 use native.Mathlib.Nat.{add-zero, mod-lt, mod-eq-of-lt}
 use native.Mathlib.Omega.{arith}
 use mathlib.Core.Path.{_≡_, refl, sym, ap, _∙_, subst}
@@ -28,7 +28,6 @@ use Rattle.delivery.specs.Book.{
   FrameRecord,
   AckRange,
   covers,
-  oneFrame,
   HandOut,
   frameCopy,
   Expected,
@@ -106,6 +105,8 @@ use Rattle.delivery.proofs.Lists.Rounds.{
   past-at,
   past-done,
   past-leads,
+  oneFrame,
+  run-through,
   past-where,
   bare,
   spent,
@@ -245,11 +246,13 @@ module _ (n : ℕ) (some-round : 0 < n) (ys : List Expected) where
 
   -- the book after frame 0 came once more, and after its acknowledgement did
   abbrev copied : Book
-  copied = page n [] [] [] (roundCopies n) (roundAcks n ++ (oneFrame 0 ∷ [])) (ys ++ (expectAgain 0 ∷ []))
+  copied = page n [] [] [] (roundCopies n) (roundAcks n ++ (record { first = 0; many = min 255 n } ∷ []))
+      (ys ++ (expectAgain 0 (min 255 n) ∷ []))
 
   copy-entered : enterArrival now 0 ≡ copied
   unfolding enterArrival
-  copy-entered = rw (ap (λ (x : FrameRecord). x .accepted) first-through, past-same n markAccepted (λ t. refl))
+  copy-entered =
+      rw (ap (λ (x : FrameRecord). x .accepted) first-through, past-same n markAccepted (λ t. refl), run-through n)
 
   ack-entered : enterAck now (some (oneFrame 0)) ≡ now
   unfolding enterAck markWhere
@@ -274,7 +277,7 @@ record AgainLast (n : ℕ) (w : System) (b : Book) : Type 0 where
   handOuts : List HandOut
   acksDue : List AckRange
   earlier : List Expected
-  bookIs : b ≡ page n [] [] [] handOuts acksDue (earlier ++ (expectAgain 0 ∷ []))
+  bookIs : b ≡ page n [] [] [] handOuts acksDue (earlier ++ (expectAgain 0 (min 255 n) ∷ []))
 
 copy-leads : (n : ℕ) → 0 < n → n ≤ 32768 → (ys : List Expected)
     → Leading specified specified-in-turn true (AgainLast n) (receives 0 ∷ [])
@@ -292,11 +295,11 @@ copy-leads n h few ys w f =
       reached = record { handOuts = _; acksDue = _; earlier = ys; bookIs = refl };
     })
 
--- What demand 3 gives: frame 0 was answered "again" at last, n messages were counted for n rounds, and memory is as it
--- was.
+-- What demand 3 gives: frame 0 was answered "again" at last, with a run of all n frames or of 255, n messages were
+-- counted for n rounds, and memory is as it was.
 record CopyAgain (n : ℕ) : Type 0 where
   premises : Premises (lateCopy n)
-  again : last expectNoEffect (map seenAs (ran (lateCopy n) .system .answers)) ≡ expectAgain 0
+  again : last expectNoEffect (map seenAs (ran (lateCopy n) .system .answers)) ≡ expectAgain 0 (min 255 n)
   counted : messagesSum (ran (lateCopy n) .system .answers) ≡ n
   unwritten : ran (lateCopy n) .system .memory ≡ roundMemory
 
@@ -328,11 +331,11 @@ copy-in-time n h few = go (whole specified specified-in-turn true (AgainLast n) 
           again =
               ap (last expectNoEffect) (g .answersMatch)
               ∙ ap (λ (b : Book). last expectNoEffect (map numberedAs (b .expected))) (e .bookIs)
-              ∙ last-is numberedAs (e .earlier) (expectAgain 0) expectNoEffect;
+              ∙ last-is numberedAs (e .earlier) (expectAgain 0 (min 255 n)) expectNoEffect;
           counted = g .messagesAgree ∙ ap (λ (b : Book). length (acceptedMessages b)) (e .bookIs) ∙ through-length 0 n;
           unwritten =
               g .memoryAgrees ∙ ap bookMemory (e .bookIs)
-              ∙ page-memory n (e .handOuts) (e .acksDue) (e .earlier ++ (expectAgain 0 ∷ []));
+              ∙ page-memory n (e .handOuts) (e .acksDue) (e .earlier ++ (expectAgain 0 (min 255 n) ∷ []));
         }
 
 copy-at-limit : CopyAgain 32768

@@ -98,7 +98,8 @@ due-once : (d : Transaction) (x : Bool) → NoByteTwice (due d x)
 due-once d true = (tt, tt)
 due-once d false = tt
 
-due-from : (d d′ : Transaction) → d .completionAddress + 4 ≤ d′ .completionAddress → (y : Bool) → ApartFrom (completionWrite d) (due d′ y)
+due-from : (d d′ : Transaction) → d .completionAddress + 4 ≤ d′ .completionAddress → (y : Bool)
+    → ApartFrom (completionWrite d) (due d′ y)
 unfolding completionWrite Apart little
 due-from d d′ h true = ((λ x p q. omega arith), tt)
 due-from d d′ h false = tt

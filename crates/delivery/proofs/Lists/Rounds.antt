@@ -1,7 +1,7 @@
 -- The book of a list that goes in rounds: each round opens a transaction, whose one bare message goes in a frame of its
 -- own, which arrives and is acknowledged. However many rounds are through, what the book says of the transactions and
 -- frames after them is as short as these are few. Assumes nothing.
-use Prim.Native.Nat.{ℕ, zero, suc, _+_, _-_, _≤_, _<_}
+use Prim.Native.Nat.{ℕ, zero, suc, _+_, _-_, _≤_, _<_, min}
 use native.Mathlib.Nat.{zero-add, mod-lt}
 use native.Mathlib.Omega.{arith}
 use mathlib.Core.Path.{_≡_, refl, sym, ap, _∙_, subst}
@@ -48,6 +48,7 @@ use Rattle.delivery.specs.Book.{
   finished,
   unfinishedFrom,
   unfinished,
+  acceptedRun,
   changeAt,
   markWhere,
   markAcknowledged,
@@ -233,6 +234,29 @@ spent-some (suc n) ts d m = go (spent-some n ts d) (List·Memᴰ·cases-cons m)
     go h (inl q) = inl q
     go h (inr k) = h k
 
+-- ---- runs of accepted frames
+
+-- The acknowledgement of a frame alone.
+abbrev pub oneFrame : ℕ → AckRange
+oneFrame c = record { first = c; many = 1 }
+
+-- the i-th after those that are through is accepted, and the next one is not
+pub run-alone : (n i c : ℕ) (fs : List FrameRecord) → c ≡ n + i → getD fs i noFrame .accepted ≡ true
+    → getD fs (suc i) noFrame .accepted ≡ false → acceptedRun (past 0 n fs) c ≡ 1
+unfolding acceptedRun
+run-alone n i c fs q this next =
+    leading-is (λ j. getD (past 0 n fs) (c + j) noFrame .accepted) 255 1 (omega arith)
+    (λ j h. ap (λ (x : FrameRecord). x .accepted) (past-at 0 n i (c + j) fs (omega arith)) ∙ this)
+    (λ h. ap (λ (x : FrameRecord). x .accepted) (past-at 0 n (suc i) (c + 1) fs (omega arith)) ∙ next)
+
+-- from the first frame on: all that are through, at most 255
+pub run-through : (n : ℕ) → acceptedRun (past 0 n []) 0 ≡ min 255 n
+unfolding acceptedRun
+run-through n =
+    leading-is (λ j. getD (past 0 n []) (0 + j) noFrame .accepted) 255 (min 255 n) (omega arith)
+    (λ j h. ap (λ (x : FrameRecord). x .accepted) (past-done 0 n (0 + j) (0 + j) [] (omega arith) (omega arith)))
+    (λ h. ap (λ (x : FrameRecord). x .accepted) (past-at 0 n 0 (0 + min 255 n) [] (omega arith)))
+
 -- ---- the book
 
 unfoldable pub roundMemory : List ℕ
@@ -377,7 +401,8 @@ fitting-none n = record {
 }
 
 pub fitting-one : (n count value : ℕ)
-    → Fitting n (record { count = count; completionAddress = 0; completionValue = value; unfinishedAtOpening = [] } ∷ [])
+    → Fitting n
+    (record { count = count; completionAddress = 0; completionValue = value; unfinishedAtOpening = [] } ∷ [])
 fitting-one n count value = record {
   inside = λ d m. go d (List·Memᴰ·cases-cons m);
   after = λ i j h m. later i j h m;
@@ -391,7 +416,8 @@ fitting-one n count value = record {
     go d (inr m) = absurd (List·Memᴰ·not-nil m)
 
     later : (i j : ℕ) → j < 1 → List·Memᴰ i (getD (only ∷ []) j noTransaction .unfinishedAtOpening)
-        → getD (spent n (only ∷ [])) i noTransaction .completionAddress + 4 ≤ getD (only ∷ []) j noTransaction .completionAddress
+        → getD (spent n (only ∷ [])) i noTransaction .completionAddress + 4
+        ≤ getD (only ∷ []) j noTransaction .completionAddress
     later i zero h m = absurd (List·Memᴰ·not-nil m)
     later i (suc j) h m = absurd (omega arith)
 
@@ -441,13 +467,15 @@ page-allowed n ts fs t h hs ds ys =
 
     apart : (i j : ℕ) → j < length (spent n ts)
         → List·Memᴰ i (getD (spent n ts) j noTransaction .unfinishedAtOpening) → Dec (j < n)
-        → getD (spent n ts) i noTransaction .completionAddress + 4 ≤ getD (spent n ts) j noTransaction .completionAddress
+        → getD (spent n ts) i noTransaction .completionAddress + 4
+        ≤ getD (spent n ts) j noTransaction .completionAddress
     apart i j k m (yes p) =
         absurd (List·Memᴰ·not-nil (subst (λ (d : Transaction). List·Memᴰ i (d .unfinishedAtOpening))
         (spent-bare n j ts p) m))
     apart i j k m (no p) =
         let q : getD (spent n ts) j noTransaction ≡ getD ts (j - n) noTransaction =
         spent-at n (j - n) j ts (omega arith) in
-        subst (λ (d : Transaction). getD (spent n ts) i noTransaction .completionAddress + 4 ≤ d .completionAddress) (sym q)
+        subst (λ (d : Transaction). getD (spent n ts) i noTransaction .completionAddress + 4 ≤ d .completionAddress)
+        (sym q)
         (t .after i (j - n) (omega (arith, spent-length n ts))
         (subst (λ (d : Transaction). List·Memᴰ i (d .unfinishedAtOpening)) q m))

@@ -29,7 +29,6 @@ use Rattle.delivery.specs.Book.{
   noFrame,
   AckRange,
   covers,
-  oneFrame,
   HandOut,
   frameCopy,
   Expected,
@@ -50,6 +49,7 @@ use Rattle.delivery.specs.Book.{
   enterOpening,
   enterMessage,
   enterSealing,
+  acceptedRun,
   changeAt,
   markWhere,
   markAcknowledged,
@@ -133,6 +133,8 @@ use Rattle.delivery.proofs.Lists.Rounds.{
   past-where,
   past-at,
   past-leads,
+  oneFrame,
+  run-alone,
   bare,
   double,
   spent,
@@ -476,17 +478,19 @@ module _ (ends : Implementation) (turns : InTurn ends) (timely : Bool) (End : Sy
             (omega (arith, past-length 0 n fs))
             (ap (λ (x : FrameRecord). x .acknowledged) (past-at 0 n i c fs q) ∙ isOpen)
 
-    -- The i-th frame of fs, which holds one message of transaction t, arrives. How the host takes it in is given.
+    -- The i-th frame of fs, which holds one message of transaction t, arrives; the one after it was not accepted. How
+    -- the host takes it in is given.
     pub then-receiving : (i c t k : ℕ) → c ≡ n + i → getD fs i noFrame .messages ≡ message t ∷ []
         → TermsFit (getD (spent n ts) t noTransaction) → getElem? hs k ≡ some (frameCopy c)
-        → lowestNotAccepted here ≤ c → WritesAllowed (page n ts (changeAt fs i markAccepted) [] hs ds ys)
+        → lowestNotAccepted here ≤ c → acceptedRun (past 0 n (changeAt fs i markAccepted)) c ≡ 1
+        → WritesAllowed (page n ts (changeAt fs i markAccepted) [] hs ds ys)
         → ((w : System) → Arrival w here k c (message t) → step ends w (receives k) ≡ hostStep specifiedHost w k)
         → (xs : List Event)
         → ((zs : List Expected)
         → Leading xs (page n ts (changeAt fs i markAccepted) [] hs (ds ++ (oneFrame c ∷ [])) zs))
         → Leading (receives k ∷ xs) here
     unfolding typed enterArrival
-    then-receiving i c t k is holds fit copied inTurn allowed same xs later w f =
+    then-receiving i c t k is holds fit copied inTurn alone allowed same xs later w f =
         before (receives k) xs w here next _ (same w arrival) refl late came
         (later (next .expected) _ (subst (For (hostStep specifiedHost w k .system)) came
         (step-receives 2 1 cardFits hostFits w here f k late (subst WritesAllowed (sym came) (kept allowed)))))
@@ -514,7 +518,7 @@ module _ (ends : Implementation) (turns : InTurn ends) (timely : Bool) (End : Sy
         came : bookStep here (hostStep specifiedHost w k .observation) ≡ next
         came =
             arrived w here k c (message t) arrival
-            ∙ ap (λ (l : List FrameRecord). withFrames next l []) (past-change 0 n i c fs markAccepted is)
+            ∙ rw (past-change 0 n i c fs markAccepted is, alone)
 
     -- The acknowledgement of frame c, called for k-th, is read. How the card reads it is given.
     pub then-reading : (c k : ℕ) → getElem? ds k ≡ some (oneFrame c) → n ≤ c
@@ -578,6 +582,7 @@ module _ (ends : Implementation) (turns : InTurn ends) (timely : Bool) (End : Sy
         (then-showing n one (sealedFrame n ∷ []) hs ds ys refl 0 n (n % frameSpace) (lit< tt) (omega arith) refl refl _
         (then-receiving n one (sealedFrame n ∷ []) hs′ ds ys refl 0 n n n (omega arith) refl bare-at
         (seam hs (frameCopy n) n long) (omega (arith, lowest))
+        (run-alone n 0 n (acceptedFrame n ∷ []) (omega arith) refl refl)
         (page-allowed n one (acceptedFrame n ∷ []) (fitting-one n 0 0) (bares (n ∷ [])) _ _ _) in-turn _
         (λ zs. then-reading n one (acceptedFrame n ∷ []) hs′ ds′ zs refl n n (seam ds (oneFrame n) n due) (omega arith)
         (λ w f. turns .readSame w _ n n f (seam ds (oneFrame n) n due)

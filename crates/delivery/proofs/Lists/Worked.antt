@@ -19,7 +19,7 @@ use Rattle.delivery.specs.Book.{
   nothingHanded,
   lentAck,
   frameCopy,
-  oneFrame,
+  AckRange,
   expectAccepted,
   expectAgain,
   expectNoEffect,
@@ -77,6 +77,9 @@ use Rattle.delivery.proofs.Lists.Computing.{computing}
 abbrev message : ℕ → ℕ → List ℕ → MessageRecord
 message t at bytes = record { trans = t; dataAddress = at; bytes = bytes }
 
+abbrev run : ℕ → ℕ → AckRange
+run first many = record { first = first; many = many }
+
 abbrev answersTo : List ℕ → List Event → List Answer
 answersTo memory events = runs specified memory events .system .answers
 
@@ -98,11 +101,11 @@ events =
     ∷ shows 0 ∷ shows 0 ∷ shows 1 ∷ chooses []
     -- frame 1 comes first, then frame 0, and frame 0 once more
     ∷ receives 2 ∷ receives 1 ∷ receives 1
-    -- the acknowledgements of frames 1 and 0; with both the transaction is finished
+    -- the acknowledgements of frame 1, and of the run of frames 0 and 1: the transaction is finished
     ∷ reads 0 ∷ reads 1
     -- transaction 1 writes bytes 1, 2 and 16 to 19 again
     ∷ opens 1 16 9 ∷ adds 1 1 (5 ∷ 6 ∷ []) ∷ seals ∷ shows 2 ∷ receives 4
-    -- a second acknowledgement of frame 0, two numbers late, and the copy held back, three late
+    -- a second acknowledgement of that run, two numbers late, and the copy held back, three late
     ∷ reads 2 ∷ receives 3
     -- frame 2 is acknowledged, so that showing it is refused: hand-out 5 is empty; hand-out 6 is a lent acknowledgement
     ∷ reads 3 ∷ shows 2 ∷ receives 5 ∷ chooses (replicate 10 0) ∷ receives 6 ∷ []
@@ -134,13 +137,13 @@ written = record {
   building = [];
   handOuts =
       frameCopy 0 ∷ frameCopy 0 ∷ frameCopy 1 ∷ frameCopy 0 ∷ frameCopy 2 ∷ nothingHanded ∷ lentAck ∷ [];
-  acksDue = oneFrame 1 ∷ oneFrame 0 ∷ oneFrame 0 ∷ oneFrame 2 ∷ oneFrame 0 ∷ [];
+  acksDue = run 1 1 ∷ run 0 2 ∷ run 0 2 ∷ run 2 1 ∷ run 0 3 ∷ [];
   expected =
-      expectAccepted 1 (record { messages = 1; bytes = 1; completed = 0 })
-      ∷ expectAccepted 0 (record { messages = 1; bytes = 2; completed = 1 })
-      ∷ expectAgain 0
-      ∷ expectAccepted 2 (record { messages = 1; bytes = 2; completed = 1 })
-      ∷ expectAgain 0 ∷ expectNoEffect ∷ expectNoEffect ∷ [];
+      expectAccepted 1 (record { messages = 1; bytes = 1; completed = 0 }) 1
+      ∷ expectAccepted 0 (record { messages = 1; bytes = 2; completed = 1 }) 2
+      ∷ expectAgain 0 2
+      ∷ expectAccepted 2 (record { messages = 1; bytes = 2; completed = 1 }) 1
+      ∷ expectAgain 0 3 ∷ expectNoEffect ∷ expectNoEffect ∷ [];
 }
 
 book-is : book ≡ written
@@ -160,11 +163,11 @@ all-finished =
 -- What the theorem then says of the host: its answers one by one; and, with both transactions finished, three messages,
 -- five bytes, two transactions, and memory as if the two had run one after the other.
 answered : map seenAs (answersTo memory events)
-    ≡ expectAccepted 1 (record { messages = 1; bytes = 1; completed = 0 })
-    ∷ expectAccepted 0 (record { messages = 1; bytes = 2; completed = 1 })
-    ∷ expectAgain 0
-    ∷ expectAccepted 2 (record { messages = 1; bytes = 2; completed = 1 })
-    ∷ expectAgain 0 ∷ expectNoEffect ∷ expectNoEffect ∷ []
+    ≡ expectAccepted 1 (record { messages = 1; bytes = 1; completed = 0 }) 1
+    ∷ expectAccepted 0 (record { messages = 1; bytes = 2; completed = 1 }) 2
+    ∷ expectAgain 0 2
+    ∷ expectAccepted 2 (record { messages = 1; bytes = 2; completed = 1 }) 1
+    ∷ expectAgain 0 3 ∷ expectNoEffect ∷ expectNoEffect ∷ []
 unfolding written numberedAs
 answered = holds .answersMatch ∙ ap (λ (b : Book). map numberedAs (b .expected)) book-is
 
@@ -227,11 +230,11 @@ written₂ = record {
       ∷ record { messages = message 2 8 (14 ∷ []) ∷ []; acknowledged = false; accepted = false } ∷ [];
   building = message 1 9 (15 ∷ []) ∷ [];
   handOuts = frameCopy 0 ∷ frameCopy 1 ∷ frameCopy 2 ∷ [];
-  acksDue = oneFrame 2 ∷ oneFrame 0 ∷ oneFrame 0 ∷ [];
+  acksDue = run 2 1 ∷ run 0 1 ∷ run 0 1 ∷ [];
   expected =
-      expectAccepted 2 (record { messages = 1; bytes = 1; completed = 0 })
-      ∷ expectAccepted 0 (record { messages = 2; bytes = 3; completed = 1 })
-      ∷ expectAgain 0 ∷ [];
+      expectAccepted 2 (record { messages = 1; bytes = 1; completed = 0 }) 1
+      ∷ expectAccepted 0 (record { messages = 2; bytes = 3; completed = 1 }) 1
+      ∷ expectAgain 0 1 ∷ [];
 }
 
 book-is₂ : book₂ ≡ written₂
@@ -288,6 +291,43 @@ memory-part : memoryAfter memory₂ partway ≡ 0 ∷ 0 ∷ 9 ∷ 0 ∷ 3 ∷ 4 
 unfolding written₂ messagesIn ofTransaction allMessagesIn needed dataWrites completionWrite little writesOf bookWrites
     perform bookMemory
 memory-part = holds₂ .memoryAgrees ∙ ap bookMemory book-is₂
+
+-- ---- a filled hole, which joins the runs on both its sides
+
+joined : List Event
+joined =
+    opens 4 16 7 ∷ adds 0 0 (1 ∷ []) ∷ seals ∷ adds 0 1 (2 ∷ []) ∷ seals ∷ adds 0 2 (3 ∷ []) ∷ seals
+    ∷ adds 0 3 (4 ∷ []) ∷ seals ∷ shows 0 ∷ shows 1 ∷ shows 2 ∷ shows 3
+    -- frame 1 comes last, and then frame 0 once more
+    ∷ receives 0 ∷ receives 2 ∷ receives 3 ∷ receives 1 ∷ receives 0
+    -- of five acknowledgements the card gets that of the repeat alone
+    ∷ reads 4 ∷ []
+
+abbrev book₃ : Book
+book₃ = booked specified memory joined
+
+holds₃ : Guarantees (outcomeOf (runs specified memory joined .system)) book₃
+unfolding computing joined
+holds₃ = applied specified demand3 memory joined refl
+
+-- Frames 0, 2 and 3 are accepted with runs of their own number alone; frame 1 has one of three, and the repeat of frame
+-- 0 one of all four.
+answered₃ : map seenAs (answersTo memory joined)
+    ≡ expectAccepted 0 (record { messages = 1; bytes = 1; completed = 0 }) 1
+    ∷ expectAccepted 2 (record { messages = 1; bytes = 1; completed = 0 }) 1
+    ∷ expectAccepted 3 (record { messages = 1; bytes = 1; completed = 0 }) 1
+    ∷ expectAccepted 1 (record { messages = 1; bytes = 1; completed = 1 }) 3
+    ∷ expectAgain 0 4 ∷ []
+unfolding computing joined
+answered₃ = holds₃ .answersMatch
+
+-- By the one acknowledgement that it read the card has released all four.
+released-four : (length (book₃ .frames) ≡ 4) × (releasedCount book₃ ≡ 4)
+unfolding computing joined
+released-four = (refl, refl)
+
+none-left : unreleasedAfter memory joined ≡ 0
+none-left = omega (arith, holds₃ .releasedAgrees, released-four)
 
 -- ---- why writes of transactions that are open together must not meet
 

@@ -4,7 +4,7 @@ use Prim.Native.Nat.{ℕ, zero, suc, _+_, _≤_, _<_}
 use native.Mathlib.Omega.{arith}
 use mathlib.Core.Path.{_≡_, refl, ap}
 use mathlib.Core.Bool.{true}
-use mathlib.Core.List.{List, [], _∷_}
+use mathlib.Core.List.{List, [], _∷_, map}
 use lib.Dec.{lit<}
 use lib.ListN.{getD, replicate}
 use Rattle.seq.specs.Ring.{frameSpace}
@@ -30,7 +30,7 @@ use Rattle.delivery.specs.System.{
   step,
   initial,
 }
-use Rattle.delivery.specs.Demand3.{outcomeOf, Guarantees, Demand3For}
+use Rattle.delivery.specs.Demand3.{outcomeOf, seenAs, Guarantees, Demand3For}
 use Rattle.delivery.specs.WrongEnds.{
   Receiving,
   withHost,
@@ -52,6 +52,13 @@ use Rattle.delivery.specs.WrongEnds.{
   completesEarly,
   neverCompletes,
   acksTwo,
+  withRun,
+  judgesRun,
+  itsOwnOnly,
+  oneTooMany,
+  beforeEffect,
+  marksFrom,
+  withoutBehind,
   silentOnAgain,
   releasesEarly,
   ignoresAcks,
@@ -67,8 +74,8 @@ use Rattle.delivery.proofs.Lists.Computing.{computing}
 
 -- The kind of the k-th answer, as a number.
 unfoldable pub kind : Expected → ℕ
-kind (expectAccepted c sums) = 1
-kind (expectAgain c) = 2
+kind (expectAccepted c sums run) = 1
+kind (expectAgain c run) = 2
 kind expectNoEffect = 3
 
 kindAt : ℕ → List Expected → ℕ
@@ -114,18 +121,18 @@ not-acknowledgesRest d =
     omega arith
 
 messagesOf : Expected → ℕ
-messagesOf (expectAccepted c s) = s .messages
-messagesOf (expectAgain c) = 0
+messagesOf (expectAccepted c s run) = s .messages
+messagesOf (expectAgain c run) = 0
 messagesOf expectNoEffect = 0
 
 bytesIn : Expected → ℕ
-bytesIn (expectAccepted c s) = s .bytes
-bytesIn (expectAgain c) = 0
+bytesIn (expectAccepted c s run) = s .bytes
+bytesIn (expectAgain c run) = 0
 bytesIn expectNoEffect = 0
 
 completedIn : Expected → ℕ
-completedIn (expectAccepted c s) = s .completed
-completedIn (expectAgain c) = 0
+completedIn (expectAccepted c s run) = s .completed
+completedIn (expectAgain c run) = 0
 completedIn expectNoEffect = 0
 
 -- It reports right numbers.
@@ -203,6 +210,44 @@ not-takesForOld d =
     let z : _≡_ {A = ℕ} 2 1 = ap (kindAt 1) (applied _ d (replicate 6 0) swapped refl .answersMatch) in
     omega arith
 
+-- Frame 1 has a run of its own alone; frame 0 then fills the hole, and its run has both.
+runIn : Expected → ℕ
+runIn (expectAccepted c s run) = run
+runIn (expectAgain c run) = run
+runIn expectNoEffect = 0
+
+-- What a host reports for its run is the book's.
+runs-seen : (r : Receiving) → Demand3For (withHost r) → passes (withHost r) (replicate 6 0) swapped ≡ true
+    → map runIn (map seenAs (runs (withHost r) (replicate 6 0) swapped .system .answers)) ≡ 1 ∷ 2 ∷ []
+unfolding computing swapped runIn
+runs-seen r d p = ap (map runIn) (applied _ d (replicate 6 0) swapped p .answersMatch)
+
+not-itsOwnOnly : Demand3For (withHost itsOwnOnly) → ⊥
+unfolding computing swapped judgesRun withRun runIn
+not-itsOwnOnly d =
+    let z : _≡_ {A = ℕ} 1 2 = ap (λ xs. getD xs 1 0) (runs-seen itsOwnOnly d refl) in
+    omega arith
+
+not-oneTooMany : Demand3For (withHost oneTooMany) → ⊥
+unfolding computing swapped judgesRun withRun runIn
+not-oneTooMany d =
+    let z : _≡_ {A = ℕ} 2 1 = ap (λ xs. getD xs 0 0) (runs-seen oneTooMany d refl) in
+    omega arith
+
+-- Before it takes effect an accepted frame is not in its own run.
+not-beforeEffect : Demand3For (withHost beforeEffect) → ⊥
+unfolding computing swapped judgesRun withRun runIn
+not-beforeEffect d =
+    let z : _≡_ {A = ℕ} 0 1 = ap (λ xs. getD xs 0 0) (runs-seen beforeEffect d refl) in
+    omega arith
+
+-- Frame 0 is behind once it took effect: so is frame 1.
+not-withoutBehind : Demand3For (withHost withoutBehind) → ⊥
+unfolding computing swapped judgesRun withRun marksFrom runIn
+not-withoutBehind d =
+    let z : _≡_ {A = ℕ} 0 2 = ap (λ xs. getD xs 1 0) (runs-seen withoutBehind d refl) in
+    omega arith
+
 -- Of two messages one arrives: no completion yet.
 not-completesEarly : Demand3For (withHost completesEarly) → ⊥
 unfolding computing twice completesEarly
@@ -277,8 +322,8 @@ sealedTwo =
     opens 2 0 1 ∷ adds 0 4 (9 ∷ []) ∷ seals ∷ adds 0 5 (9 ∷ []) ∷ seals ∷ shows 0 ∷ receives 0 ∷ []
 
 countIn : Expected → ℕ
-countIn (expectAccepted c s) = c
-countIn (expectAgain c) = c
+countIn (expectAccepted c s run) = c
+countIn (expectAgain c run) = c
 countIn expectNoEffect = 0
 
 not-showsOther : Demand3For (withShowing showsOther) → ⊥

@@ -17,15 +17,13 @@ use Rattle.seq.proofs.Ring.{distance-ahead}
 use Rattle.wire.specs.Format.{Message}
 use Rattle.wire.specs.Reading.{flags}
 use Rattle.host.specs.declared.Pair.{Pair}
-use Rattle.host.specs.declared.Answer.the-variants.{Again}
-use Rattle.host.specs.Host.{Received, unchanged, byNumber, receiveOf}
+use Rattle.host.specs.Host.{Received, settled, again, byNumber, receiveOf}
 use Rattle.delivery.specs.Book.{
   MessageRecord,
   Transaction,
   noTransaction,
   FrameRecord,
   AckRange,
-  oneFrame,
   HandOut,
   frameCopy,
   Expected,
@@ -37,6 +35,7 @@ use Rattle.delivery.specs.Book.{
   acceptedMessages,
   changeAt,
   markAccepted,
+  ackOf,
   firstAnswer,
   enterArrival,
   bookFrom,
@@ -157,7 +156,7 @@ module _ (w : System) (b : Book) (k c : ℕ) (e : MessageRecord) (a : Arrival w 
   -- the frame that is awaited: as the rules say
   in-turn : lowestNotAccepted b ≡ c → low (b .transactions) (acceptedMessages b) ≡ e .trans
       → step older w (receives k) ≡ hostStep specifiedHost w k
-  unfolding step byHost acksFor numberedPlainly byNumber
+  unfolding step byHost acksFor numberedPlainly settled byNumber
   in-turn awaited lowest = rw same
     where
       next-is : h .next .0 ≡ num
@@ -174,7 +173,7 @@ module _ (w : System) (b : Book) (k c : ℕ) (e : MessageRecord) (a : Arrival w 
 
   -- a frame whose number is below the awaited one's: "again", whether it is a copy or new
   says-again : plainlyBehind num (lowestNotAccepted b % frameSpace) ≡ true
-      → comparesPlainly h frame (w .memory) ≡ unchanged h (w .memory) (Again (record { 0 = num }))
+      → comparesPlainly h frame (w .memory) ≡ again h (w .memory) num
   unfolding numberedPlainly
   says-again q = plainly ∙ rw (a .agree .rest .hostFor .nextIs, q)
 
@@ -216,7 +215,7 @@ module _ (n : ℕ) (is : n ≡ 65535) (hs : List HandOut) (ds : List AckRange) (
 
       b′ : Book
       b′ = page n terms (sealedFrame n ∷ acceptedFrame n ∷ []) [] (hs ++ (frameCopy (suc n) ∷ []))
-          (ds ++ (oneFrame (suc n) ∷ []))
+          (ds ++ (ackOf (past 0 n (sealedFrame n ∷ acceptedFrame n ∷ [])) (suc n) ∷ []))
           (ys ++ (expects ∷ []))
 
       there : frameAt b (suc n) ≡ sealedFrame n
@@ -248,13 +247,13 @@ module _ (n : ℕ) (is : n ≡ 65535) (hs : List HandOut) (ds : List AckRange) (
       received : Received
       received = comparesPlainly (w .host) (getD (w .handOuts) n []) (w .memory)
 
-      again : received ≡ unchanged (w .host) (w .memory) (Again (record { 0 = suc n % frameSpace }))
-      again = says-again w b n (suc n) (message n) arrival compared
+      answered : received ≡ again (w .host) (w .memory) (suc n % frameSpace)
+      answered = says-again w b n (suc n) (message n) arrival compared
 
       differ : map seenAs (w .answers ++ (received .answer ∷ [])) ≡ map numberedAs (ys ++ (expects ∷ [])) → ⊥
       differ q =
           let z : _≡_ {A = ℕ} 2 1 =
-          ap (λ (r : Received). kind (seenAs (r .answer))) (sym again)
+          ap (λ (r : Received). kind (seenAs (r .answer))) (sym answered)
           ∙ ap kind (sym (last-is seenAs (w .answers) (received .answer) expectNoEffect))
           ∙ ap (λ (l : List Expected). kind (last expectNoEffect l)) q
           ∙ ap kind (last-is numberedAs ys expects expectNoEffect) in

@@ -2,7 +2,7 @@
 -- it shows before the numbers come round: so the list that refutes it brings 65,535 frames through, seals two more and
 -- has the acknowledgement of the second, whose number is 0, come first. The card takes it for an old one, and has a
 -- frame left in the end. Assumes nothing.
-use Prim.Native.Nat.{ℕ, suc, _+_, _%_, _<_}
+use Prim.Native.Nat.{ℕ, suc, _+_, _%_, _≤_, _<_}
 use native.Mathlib.Nat.{mod-lt}
 use native.Mathlib.Decide.{decLt, ℕ-discrete}
 use native.Mathlib.Omega.{arith}
@@ -14,7 +14,7 @@ use borrow.Author.Tests.{le-leb, lt-leb, lt-ltb, le-ltb}
 use lib.Dec.{lit<}
 use lib.ListN.{length, getD, getElem?, length-append}
 use Rattle.seq.specs.Ring.{frameSpace}
-use Rattle.bitmap.proofs.Marks.{leading-is}
+use Rattle.bitmap.proofs.Marks.{leading-is, leading-fails}
 use Rattle.wire.specs.Reading.{ackStart}
 use Rattle.wire.proofs.RoundTrip.{ack-start}
 use Rattle.delivery.specs.Book.{
@@ -24,13 +24,13 @@ use Rattle.delivery.specs.Book.{
   noFrame,
   AckRange,
   covers,
-  oneFrame,
   HandOut,
   frameCopy,
   Expected,
   Book,
   messagesIn,
   releasedCount,
+  lowestNotAccepted,
   changeAt,
   markWhere,
   markAcknowledged,
@@ -106,6 +106,8 @@ use Rattle.delivery.proofs.Lists.Rounds.{
   past-at,
   past-done,
   past-leads,
+  oneFrame,
+  run-alone,
   double,
   spent,
   spent-at,
@@ -122,12 +124,12 @@ ends = withReading readsPlainly
 
 -- ---- the list
 
--- After the rounds two frames are sealed and handed out. The second, with number 0, arrives first and is acknowledged
--- first.
+-- After the rounds two frames are sealed and handed out, and both arrive. Of their acknowledgements that of the second,
+-- whose number is 0, comes first.
 abbrev after : ℕ → List Event
 after n =
     opens 2 0 0 ∷ adds n 0 [] ∷ seals ∷ adds n 0 [] ∷ seals ∷ shows 65535 ∷ shows 0
-    ∷ receives (suc n) ∷ receives n ∷ reads n ∷ reads (suc n) ∷ []
+    ∷ receives n ∷ receives (suc n) ∷ reads (suc n) ∷ reads n ∷ []
 
 events : List Event
 events = rounds 65535 0 (after 65535)
@@ -233,6 +235,14 @@ module _ (n : ℕ) (is : n ≡ 65535) where
         all i h (no p) (yes q) = ap (λ (x : FrameRecord). x .acknowledged) (past-at 0 n 0 i two (omega arith))
         all i h (no p) (no q) = ap (λ (x : FrameRecord). x .acknowledged) (past-at 0 n 1 i two (omega arith))
 
+    accepted-one : lowestNotAccepted (with-frames (acceptedFrame n) (sealedFrame n)) ≤ n + 1
+    accepted-one =
+        leading-fails (λ c. getD (past 0 n two) c noFrame .accepted) (length (past 0 n two)) (n + 1)
+        (ap (λ (x : FrameRecord). x .accepted) (past-at 0 n 1 (n + 1) two (omega arith)))
+      where
+        two : List FrameRecord
+        two = acceptedFrame n ∷ sealedFrame n ∷ []
+
     released-one : releasedCount (with-frames (done n) (acceptedFrame n)) ≡ n + 1
     released-one =
         leading-is (λ c. getD (past 0 n two) c noFrame .acknowledged) (length (past 0 n two)) (n + 1)
@@ -247,14 +257,14 @@ module _ (n : ℕ) (is : n ≡ 65535) where
         all i h (no p) = ap (λ (x : FrameRecord). x .acknowledged) (past-at 0 n 0 i two (omega arith))
 
     -- Both acknowledgements are read, that of the second frame first.
-    left-over : getElem? ds n ≡ some (oneFrame (suc n)) → getElem? ds (suc n) ≡ some (oneFrame n)
-        → Leading ends turns true Wrong (reads n ∷ reads (suc n) ∷ []) (with-frames (acceptedFrame n) (acceptedFrame n))
+    left-over : getElem? ds (suc n) ≡ some (oneFrame (suc n)) → getElem? ds n ≡ some (oneFrame n)
+        → Leading ends turns true Wrong (reads (suc n) ∷ reads n ∷ []) (with-frames (acceptedFrame n) (acceptedFrame n))
     unfolding plainlyBehind typed allTyped inTime ackInTime notTooLate run bookFrom step byCard enter enterAck
         messagesIn
     left-over second first w f =
-        before ends turns true Wrong (reads n) (reads (suc n) ∷ []) w b b₁ (byCard w (readCall n) unread)
-        (ap (byCard w (readCall n)) (ignored w b n (suc n) f second compared)) refl late₁ entered₁
-        (before ends turns true Wrong (reads (suc n)) [] w₁ b₁ b₂ _ (in-turn w₁ b (suc n) n g first released) refl late₂
+        before ends turns true Wrong (reads (suc n)) (reads n ∷ []) w b b₁ (byCard w (readCall (suc n)) unread)
+        (ap (byCard w (readCall (suc n))) (ignored w b (suc n) (suc n) f second compared)) refl late₁ entered₁
+        (before ends turns true Wrong (reads n) [] w₁ b₁ b₂ _ (in-turn w₁ b n n g first released) refl late₂
         entered₂
         (record {
           fitting = refl;
@@ -285,7 +295,7 @@ module _ (n : ℕ) (is : n ≡ 65535) where
         unread = handedOver 0 (w .card) (w .slots) []
 
         w₁ : System
-        w₁ = byCard w (readCall n) unread .system
+        w₁ = byCard w (readCall (suc n)) unread .system
 
         -- the card is as it was before
         g : For w₁ b
@@ -301,16 +311,16 @@ module _ (n : ℕ) (is : n ≡ 65535) where
         compared : plainlyBehind (suc n % frameSpace) (releasedCount b % frameSpace) ≡ true
         compared = rw (released, is) refl
 
-        late₁ : inTime b (reads n) ≡ true
+        late₁ : inTime b (reads (suc n)) ≡ true
         late₁ = rw second (le-leb (releasedCount b) (suc n + ackLateMost) (omega (arith, released)))
 
-        late₂ : inTime b₁ (reads (suc n)) ≡ true
+        late₂ : inTime b₁ (reads n) ≡ true
         late₂ = rw first (le-leb (releasedCount b₁) (n + ackLateMost) (omega (arith, released₁)))
 
-        late : inTime b (reads (suc n)) ≡ true
+        late : inTime b (reads n) ≡ true
         late = rw first (le-leb (releasedCount b) (n + ackLateMost) (omega (arith, released)))
 
-        entered₁ : bookStep b (byCard w (readCall n) unread .observation) ≡ b₁
+        entered₁ : bookStep b (byCard w (readCall (suc n)) unread .observation) ≡ b₁
         entered₁ =
             rw second
             (ap (λ (l : List FrameRecord). withFrames b l [])
@@ -319,23 +329,23 @@ module _ (n : ℕ) (is : n ≡ 65535) where
             ∙ ap (past 0 n) (second-marked (acceptedFrame n) (acceptedFrame n))))
 
         w₂ : System
-        w₂ = cardStep specifiedCard w₁ (readCall (suc n)) .system
+        w₂ = cardStep specifiedCard w₁ (readCall n) .system
 
-        read-second : bookStep b (cardStep specifiedCard w₁ (readCall (suc n)) .observation)
+        read-second : bookStep b (cardStep specifiedCard w₁ (readCall n) .observation)
             ≡ with-frames (done n) (acceptedFrame n)
         read-second =
-            reading-entered 2 1 cardFits hostFits w₁ b g (suc n) (oneFrame n) first
+            reading-entered 2 1 cardFits hostFits w₁ b g n (oneFrame n) first
             ∙ ap (λ (l : List FrameRecord). withFrames b l [])
             (past-where markAcknowledged (λ t. refl) (covers (oneFrame n)) 0 n (acceptedFrame n ∷ acceptedFrame n ∷ [])
             ∙ ap (past 0 n) (first-marked (acceptedFrame n) (acceptedFrame n)))
 
         later : For w₂ (with-frames (done n) (acceptedFrame n))
-        later = subst (For w₂) read-second (step-reads 2 1 cardFits hostFits w₁ b g (suc n) late)
+        later = subst (For w₂) read-second (step-reads 2 1 cardFits hostFits w₁ b g n late)
 
-        unrefused₂ : specifiedCard .reading (w₁ .card) (w₁ .slots) (getD (w₁ .acks) (suc n) []) .refusal ≡ 0
-        unrefused₂ = unrefused w₁ b (suc n) n g first
+        unrefused₂ : specifiedCard .reading (w₁ .card) (w₁ .slots) (getD (w₁ .acks) n []) .refusal ≡ 0
+        unrefused₂ = unrefused w₁ b n n g first
 
-        entered₂ : bookStep b₁ (cardStep specifiedCard w₁ (readCall (suc n)) .observation) ≡ b₂
+        entered₂ : bookStep b₁ (cardStep specifiedCard w₁ (readCall n) .observation) ≡ b₂
         entered₂ =
             rw (unrefused₂, first)
             (ap (λ (l : List FrameRecord). withFrames b₁ l [])
@@ -352,20 +362,22 @@ module _ (n : ℕ) (is : n ≡ 65535) where
         (then-showing ends turns true Wrong n terms two hs₁ ds ys refl 1 (suc n) 0 (lit< tt) (omega arith) (rw is refl)
         refl
         _
-        (then-receiving ends turns true Wrong n terms two hs₂ ds ys refl 1 (suc n) n (suc n) (omega arith) refl fit
-        (seam hs₁ (frameCopy (suc n)) (suc n) (omega (arith, length-append hs (frameCopy n ∷ []))))
+        (then-receiving ends turns true Wrong n terms two hs₂ ds ys refl 0 n n n (omega arith) refl fit
+        (still-at hs₁ (frameCopy (suc n) ∷ []) n (frameCopy n) (seam hs (frameCopy n) n long))
         (omega (arith, past-leads (λ x. x .accepted) (λ t. refl) n two refl))
-        (page-allowed n terms (sealedFrame n ∷ acceptedFrame n ∷ []) (fitting-one n 2 0) (bares (n ∷ n ∷ [])) _ _ _)
+        (run-alone n 0 n (acceptedFrame n ∷ sealedFrame n ∷ []) (omega arith) refl refl)
+        (page-allowed n terms (acceptedFrame n ∷ sealedFrame n ∷ []) (fitting-one n 2 0) (bares (n ∷ n ∷ [])) _ _ _)
         (λ w a. refl) _
-        (λ zs. then-receiving ends turns true Wrong n terms (sealedFrame n ∷ acceptedFrame n ∷ []) hs₂ ds₁ zs refl 0 n n
-        n
-        (omega arith) refl fit (still-at hs₁ (frameCopy (suc n) ∷ []) n (frameCopy n) (seam hs (frameCopy n) n long))
-        (omega (arith, past-leads (λ x. x .accepted) (λ t. refl) n (sealedFrame n ∷ acceptedFrame n ∷ []) refl))
+        (λ zs. then-receiving ends turns true Wrong n terms (acceptedFrame n ∷ sealedFrame n ∷ []) hs₂ ds₁ zs refl 1
+        (suc n) n (suc n) (omega arith) refl fit
+        (seam hs₁ (frameCopy (suc n)) (suc n) (omega (arith, length-append hs (frameCopy n ∷ []))))
+        (omega (arith, accepted-one hs₂ ds₁ zs))
+        (run-alone n 1 (suc n) (acceptedFrame n ∷ acceptedFrame n ∷ []) (omega arith) refl refl)
         (page-allowed n terms (acceptedFrame n ∷ acceptedFrame n ∷ []) (fitting-one n 2 0) (bares (n ∷ n ∷ [])) _ _ _)
         (λ w a. refl) _
         (λ vs. left-over hs₂ ds₂ vs
-        (still-at ds₁ (oneFrame n ∷ []) n (oneFrame (suc n)) (seam ds (oneFrame (suc n)) n due))
-        (seam ds₁ (oneFrame n) (suc n) (omega (arith, length-append ds (oneFrame (suc n) ∷ [])))))))))
+        (seam ds₁ (oneFrame (suc n)) (suc n) (omega (arith, length-append ds (oneFrame n ∷ []))))
+        (still-at ds₁ (oneFrame (suc n) ∷ []) n (oneFrame n) (seam ds (oneFrame n) n due)))))))
       where
         two : List FrameRecord
         two = sealedFrame n ∷ sealedFrame n ∷ []
@@ -377,10 +389,10 @@ module _ (n : ℕ) (is : n ≡ 65535) where
         hs₂ = hs₁ ++ (frameCopy (suc n) ∷ [])
 
         ds₁ : List AckRange
-        ds₁ = ds ++ (oneFrame (suc n) ∷ [])
+        ds₁ = ds ++ (oneFrame n ∷ [])
 
         ds₂ : List AckRange
-        ds₂ = ds₁ ++ (oneFrame n ∷ [])
+        ds₂ = ds₁ ++ (oneFrame (suc n) ∷ [])
 
 -- ---- the theorem
 

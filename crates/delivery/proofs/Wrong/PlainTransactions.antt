@@ -21,7 +21,7 @@ use Rattle.delivery.specs.Book.{
   noTransaction,
   FrameRecord,
   AckRange,
-  oneFrame,
+  ackOf,
   HandOut,
   frameCopy,
   Expected,
@@ -183,8 +183,8 @@ turns = host-in-turn transactionsPlainly in-turn
 -- an answer that does not say "accepted" is none that does
 other-kind : (a : Answer) → saysAccepted a ≡ false → kind (seenAs a) ≡ 1 → ⊥
 unfolding saysAccepted seenAs kind
-other-kind (Accepted n sums) q z = absurd (let y : _≡_ {A = ℕ} 0 1 = cc in omega arith)
-other-kind (Again n) q z = omega arith
+other-kind (Accepted n sums run) q z = absurd (let y : _≡_ {A = ℕ} 0 1 = cc in omega arith)
+other-kind (Again n run) q z = omega arith
 other-kind NoMessages q z = omega arith
 other-kind (Refused r) q z = omega arith
 
@@ -221,7 +221,8 @@ module _ (n : ℕ) (is : n ≡ 4294967295) (hs : List HandOut) (ds : List AckRan
       expects = firstAnswer b n (past 0 n (acceptedFrame (suc n) ∷ []))
 
       b′ : Book
-      b′ = page n terms (acceptedFrame (suc n) ∷ []) [] (hs ++ (frameCopy n ∷ [])) (ds ++ (oneFrame n ∷ []))
+      b′ = page n terms (acceptedFrame (suc n) ∷ []) [] (hs ++ (frameCopy n ∷ []))
+          (ds ++ (ackOf (past 0 n (acceptedFrame (suc n) ∷ [])) n ∷ []))
           (ys ++ (expects ∷ []))
 
       there : frameAt b n ≡ sealedFrame (suc n)
