@@ -54,18 +54,17 @@ use Rattle.host.proofs.Receiving.{reading, settled-behind, settled-ahea
 
 -- ---- the run, by the distance of its first number
 
-pub run-most : (p : Pair) (num : ℕ) → runFrom p num ≤ 255
-unfolding runFrom
-run-most p num = leading-le (λ i. settled p (advance frameSpace num i)) 255
-
--- each of its numbers is behind or accepted, and the one that follows is not, but where 255 are full
+-- The number that follows it is neither behind nor accepted, but where 255 are full, and each of its own is one of them.
 pub run-longest : (p : Pair) (num : ℕ)
-    → ((i : ℕ) → i < runFrom p num → settled p (advance frameSpace num i) ≡ true)
-    × (runFrom p num < 255 → settled p (advance frameSpace num (runFrom p num)) ≡ false)
+    → (runFrom p num < 255 → settled p (advance frameSpace num (runFrom p num)) ≡ false)
+    × ((i : ℕ) → i < runFrom p num → settled p (advance frameSpace num i) ≡ true)
 unfolding runFrom
 run-longest p num =
-    let each : ℕ → Bool = λ i. settled p (advance frameSpace num i) in
-    (leading-holds each 255, leading-stops each 255)
+    ((λ l. leading-stops (λ i. settled p (advance frameSpace num i)) _ (omega arith)), leading-holds _ _)
+
+pub run-most : (p : Pair) (num : ℕ) → runFrom p num ≤ 255
+unfolding runFrom
+run-most p num = leading-le _ _
 
 module _ (p : Pair) (num d : ℕ) (d-is : d ≡ distance frameSpace (p .next .0) num) where
   abbrev each : ℕ → Bool
@@ -272,7 +271,43 @@ module _ (p : Pair) (num d : ℕ) (t : Transactions) (d-is : d ≡ distance fram
       go (yes h) = moved-by h ∙ sym (ones-left h)
       go (no h) = not-past (omega arith)
 
--- An answer that acknowledges has a run of 1 to 255 numbers.
+-- An answer that acknowledges ends with the run from its number on in the pair that the frame leaves.
+abbrev pub EndsWithRun : Pair → Answer → Type 0
+EndsWithRun p (Accepted n sums run) = run ≡ runFrom p (n .0)
+EndsWithRun p (Again n run) = run ≡ runFrom p (n .0)
+EndsWithRun p NoMessages = Unit {0}
+EndsWithRun p (Refused r) = Unit {0}
+
+module _ (p : Pair) (memory : List ℕ) where
+  by-number-ends : (num : ℕ) (ms : List Message)
+      → EndsWithRun (byNumber p memory num ms .pair) (byNumber p memory num ms .answer)
+  unfolding byNumber accepting
+  by-number-ends num ms = go (settled p num) refl (leb 64 (distance frameSpace (p .next .0) num)) refl
+    where
+      taken : (o : Taken) → EndsWithRun (concluded p memory num o .pair) (concluded p memory num o .answer)
+      taken (fine t) = refl
+      taken (wrong r at) = tt
+
+      go : (a : Bool) → settled p num ≡ a → (b : Bool) → leb 64 (distance frameSpace (p .next .0) num) ≡ b
+          → EndsWithRun (byNumber p memory num ms .pair) (byNumber p memory num ms .answer)
+      go true x b y = rw x refl
+      go false x true y = rw (x, y) tt
+      go false x false y = rw (x, y) (taken (takeAll (tallyOf p memory) 0 ms))
+
+  pub answer-ends : (f : List ℕ) → EndsWithRun (receiveOf p f memory .pair) (receiveOf p f memory .answer)
+  unfolding receiveOf
+  answer-ends f = go (reading p f memory)
+    where
+      some : (ms : List Message) (b : Bool) → eqb (flags f) 0 ≡ b
+          → EndsWithRun (answered p f memory (good ms) .pair) (answered p f memory (good ms) .answer)
+      some ms true e = rw e tt
+      some ms false e = rw e (by-number-ends (number f) ms)
+
+      go : (x : Read) → EndsWithRun (answered p f memory x .pair) (answered p f memory x .answer)
+      go (bad r) = tt
+      go (good ms) = some ms (eqb (flags f) 0) refl
+
+-- It has 1 to 255 numbers.
 abbrev pub RunFits : Answer → Type 0
 RunFits (Accepted n sums run) = (1 ≤ run) × (run ≤ 255)
 RunFits (Again n run) = (1 ≤ run) × (run ≤ 255)
@@ -299,7 +334,7 @@ module _ (p : Pair) (memory : List ℕ) (fits : p .next .0 < frameSpace) where
             run-some q num (distance frameSpace (q .next .0) num) refl (settled-after p num (t .transactions) fits l),
             run-most q num,
           )
-      taken l (wrong r place) = tt
+      taken l (wrong r at) = tt
 
       go : (a : Bool) → settled p num ≡ a → (b : Bool) → leb 64 d ≡ b → RunFits (byNumber p memory num ms .answer)
       go true x b y = rw x (run-some p num d refl x, run-most p num)
