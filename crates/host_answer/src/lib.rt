@@ -9,7 +9,7 @@ ghost use lib.ListN.{getD};
 ghost use Rattle.host.specs.Host.{answerWords, answerOf, acknowledgementOf};
 ghost use Rattle.host_words.specs.Words.{pairOf};
 
-// An answer's seven words.
+// An answer's eight words.
 struct Line {
     kind: u64,
     number: u64,
@@ -18,6 +18,7 @@ struct Line {
     completed: u64,
     refusal: u64,
     place: u64,
+    run: u64,
 }
 
 const NOTHING: Line = Line {
@@ -28,10 +29,11 @@ const NOTHING: Line = Line {
     completed: 0,
     refusal: 0,
     place: 0,
+    run: 0,
 };
 
-fn put_line(out: &mut [u64; 7], l: Line)
-    ensures { λ _. ⌜ now (out .exit) ≡ l .kind ∷ l .number ∷ l .messages ∷ l .bytes ∷ l .completed ∷ l .refusal ∷ l .place ∷ [] ⌝ }
+fn put_line(out: &mut [u64; 8], l: Line)
+    ensures { λ _. ⌜ now (out .exit) ≡ l .kind ∷ l .number ∷ l .messages ∷ l .bytes ∷ l .completed ∷ l .refusal ∷ l .place ∷ l .run ∷ [] ⌝ }
 {
     *out = [
         l.kind,
@@ -41,15 +43,16 @@ fn put_line(out: &mut [u64; 7], l: Line)
         l.completed,
         l.refusal,
         l.place,
+        l.run,
     ];
 }
 
 // Writes the answer's words.
-pub fn put_answer(out: &mut [u64; 7], answer: Answer)
+pub fn put_answer(out: &mut [u64; 8], answer: Answer)
     ensures { λ _. ⌜ now (out .exit) ≡ answerWords answer ⌝ }
 {
     match answer {
-        Answer::Accepted(n, sums) => put_line(
+        Answer::Accepted(n, sums, run) => put_line(
             out,
             Line {
                 kind: 1,
@@ -59,9 +62,10 @@ pub fn put_answer(out: &mut [u64; 7], answer: Answer)
                 completed: sums.completed as u64,
                 refusal: 0,
                 place: 0,
+                run: run as u64,
             },
         ),
-        Answer::Again(n) => put_line(
+        Answer::Again(n, run) => put_line(
             out,
             Line {
                 kind: 2,
@@ -71,6 +75,7 @@ pub fn put_answer(out: &mut [u64; 7], answer: Answer)
                 completed: 0,
                 refusal: 0,
                 place: 0,
+                run: run as u64,
             },
         ),
         Answer::NoMessages => put_line(out, NOTHING),
@@ -84,6 +89,7 @@ pub fn put_answer(out: &mut [u64; 7], answer: Answer)
                 completed: 0,
                 refusal: r.number as u64,
                 place: r.place as u64,
+                run: 0,
             },
         ),
     }
@@ -94,8 +100,8 @@ pub fn kind_of(answer: Answer) -> u32
     ensures { λ r. ⌜ r ≡ getD (answerWords answer) 0 0 ⌝ }
 {
     match answer {
-        Answer::Accepted(_, _) => 1,
-        Answer::Again(_) => 2,
+        Answer::Accepted(_, _, _) => 1,
+        Answer::Again(_, _) => 2,
         Answer::NoMessages => 3,
         Answer::Refused(_) => 4,
     }
@@ -113,27 +119,28 @@ pub fn acknowledge_in_place(words: &[u64], answer: Answer, number: FrameNo) -> A
     )
 }
 
-// What an answer's kind and number call for an acknowledgement by.
-fn answer_of(kind: u64, answered: u64) -> Answer
-    ensures { λ r. ⌜ r ≡ answerOf kind answered ⌝ }
+// What an answer's kind, number and run call for an acknowledgement by.
+fn answer_of(kind: u64, answered: u64, run: u64) -> Answer
+    ensures { λ r. ⌜ r ≡ answerOf kind answered run ⌝ }
 {
     if kind == 1 {
-        return Answer::Again(FrameNo((answered % 65536) as u16));
+        return Answer::Again(FrameNo((answered % 65536) as u16), (run % 256) as u8);
     }
     if kind == 2 {
-        return Answer::Again(FrameNo((answered % 65536) as u16));
+        return Answer::Again(FrameNo((answered % 65536) as u16), (run % 256) as u8);
     }
     Answer::NoMessages
 }
 
-// The same by the kind and the number of an answer's words, which may be any.
+// The same by the kind, the number and the run of an answer's words, which may be any.
 pub fn acknowledge_words(
     words: &[u64],
     kind: u64,
     answered: u64,
+    run: u64,
     number: FrameNo,
 ) -> Acknowledgement
-    ensures { λ r. ⌜ r ≡ acknowledgementOf (pairOf (now (words .entry))) (answerOf kind answered) (number .0) ⌝ }
+    ensures { λ r. ⌜ r ≡ acknowledgementOf (pairOf (now (words .entry))) (answerOf kind answered run) (number .0) ⌝ }
 {
-    acknowledge_in_place(words, answer_of(kind, answered), number)
+    acknowledge_in_place(words, answer_of(kind, answered, run), number)
 }

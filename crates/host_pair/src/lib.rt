@@ -67,8 +67,14 @@ fn range_of(answer: Answer) -> Range
     ensures { λ r. ⌜ r ≡ rangeOf answer ⌝ }
 {
     match answer {
-        Answer::Accepted(n, _) => Range { start: n, count: 1 },
-        Answer::Again(n) => Range { start: n, count: 1 },
+        Answer::Accepted(n, _, run) => Range {
+            start: n,
+            count: run,
+        },
+        Answer::Again(n, run) => Range {
+            start: n,
+            count: run,
+        },
         Answer::NoMessages => NO_RANGE,
         Answer::Refused(_) => NO_RANGE,
     }
