@@ -6,9 +6,10 @@ use mathlib.Core.Bool.{Bool, false, cond, not}
 use mathlib.Core.List.{List}
 use lib.Dec.{leb}
 use lib.ListN.{length}
-use Rattle.seq.specs.Ring.{frameSpace}
-use Rattle.bitmap.specs.Marks.{mark}
+use Rattle.seq.specs.Ring.{distance, frameSpace}
+use Rattle.bitmap.specs.Marks.{mark, withMark}
 use Rattle.bitmap.specs.Window.{markedAndMoved}
+use Rattle.host_run.specs.Counting.{runWithin}
 use Rattle.host_words.specs.declared.Head.{Head}
 use Rattle.host_words.specs.Words.{wordCount, pairOf, headPart, joined}
 
@@ -28,6 +29,12 @@ acceptedHead h num lowest closed =
       lowest = record { 0 = lowest };
       closed = closed;
     }
+
+-- The run of numbers that an accepted frame acknowledges, counted on the marks before the window moves.
+unfoldable pub acceptedRun : Head → ℕ → ℕ
+acceptedRun h num =
+    let d = distance frameSpace (h .next .0) num in
+    runWithin (withMark 64 (h .marks) d) d
 
 abbrev pub Accepts : List ℕ → List ℕ → ℕ → ℕ → ℕ → Type 0
 Accepts w left num lowest closed =

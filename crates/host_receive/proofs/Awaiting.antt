@@ -5,7 +5,7 @@ use mathlib.Core.Logic.{_≢_, _⊎_, ⊎-elim}
 use mathlib.Core.Bool.{true, false}
 use mathlib.Core.List.{List}
 use mathlib.Core.Option.{Option, none, some}
-use Prim.Native.Nat.{ℕ, _≤_, _<_}
+use Prim.Native.Nat.{ℕ, _^_, _≤_, _<_}
 use native.Mathlib.Nat.{zero-add}
 use native.Mathlib.Decide.{decLe}
 use native.Mathlib.Omega.{arith}
@@ -27,6 +27,8 @@ use Rattle.host.specs.Host.{
   refused,
   accepting,
   concluded,
+  runFrom,
+  afterFrame,
   transactionsOf,
   tallyOf,
   takeAll,
@@ -43,13 +45,15 @@ use Rattle.host.proofs.Receiving.{
   by-number-again,
   by-number-new,
 }
+use Rattle.host.specs.Transactions.{Transactions}
+use Rattle.host_run.proofs.Counting.{at-behind, at-window, after-accepting}
 use Rattle.host_words.specs.Words.{headPart, joined}
 use Rattle.host_validate.specs.declared.Validated.{Validated}
 use Rattle.host_validate.specs.Validating.{noneYet, validatedFrom, validatedOf}
 use Rattle.host_validate.proofs.Walk.{validated-short}
 use Rattle.host_apply.specs.Applying.{appliedFrom}
 use Rattle.host_refuse.specs.Refusing.{refusedWith, numberAnswered}
-use Rattle.host_number.specs.Numbering.{acceptedHead}
+use Rattle.host_number.specs.Numbering.{acceptedHead, acceptedRun}
 use Rattle.host_receive.specs.Receiving.{Awaited}
 use Rattle.host_receive.proofs.Passes.{tallyOfBoth, taken-all, not-taken-all, validated-cut}
 
@@ -65,9 +69,10 @@ stays p f memory a e = (
 -- a frame with messages that passed the checks of its heading
 pub awaited : (p : Pair) (f : List ℕ) → Framed (addressed (p .own) (p .peer) f) f
     → (head : FrameHeader) → head ≡ headerOf f → head .flags ≢ 0
-    → (d : ℕ) → d ≡ distance frameSpace (p .next .0) (head .number .0) → Awaited p f (head .number .0) d
+    → (d : ℕ) → d ≡ distance frameSpace (p .next .0) (head .number .0) → p .next .0 < frameSpace → p .marks < 2 ^ 64
+    → Awaited p f (head .number .0) d
 unfolding headerOf
-awaited p f h head e ne d d-is =
+awaited p f h head e ne d d-is next-fits marks-fit =
     let flags-are = ap (λ (h : FrameHeader). h .flags) e in
     record {
       least = h .least;
@@ -76,6 +81,8 @@ awaited p f h head e ne d d-is =
       flag = omega (arith, h .flag, flags-are, ne);
       num-is = ap (λ (h : FrameHeader). h .number .0) e;
       d-is = d-is;
+      next-fits = next-fits;
+      marks-fit = marks-fit;
     }
 
 -- its refusals, and none of them, by the IDs that were read in the words
@@ -120,28 +127,35 @@ module _ (p : Pair) (f memory : List ℕ) (num d : ℕ) (w : Awaited p f num d) 
 
   -- behind, ahead or accepted already: the layout's refusal, or by where the number lies; nothing is touched
   pub answered-by-number : (64 ≤ d) ⊎ (mark (p .marks) d ≡ true)
-      → receiveOf p f memory ≡ unchanged p memory (numberAnswered (p .own) (p .peer) f num d)
+      → receiveOf p f memory ≡ unchanged p memory (numberAnswered (p .own) (p .peer) f num (p .marks) d)
   unfolding numberAnswered
   answered-by-number old = cut (messagesFrom (length f) f 10) refl
     where
-      Settled : Type 0
-      Settled = receiveOf p f memory ≡ unchanged p memory (numberAnswered (p .own) (p .peer) f num d)
+      due : Answer
+      due = numberAnswered (p .own) (p .peer) f num (p .marks) d
 
-      settled : (a : Answer) → receiveOf p f memory ≡ unchanged p memory a → numberAnswered (p .own) (p .peer) f num d ≡ a → Settled
+      Settled : Type 0
+      Settled = receiveOf p f memory ≡ unchanged p memory due
+
+      settled : (a : Answer) → receiveOf p f memory ≡ unchanged p memory a → due ≡ a → Settled
       settled a e s = e ∙ ap (unchanged p memory) (sym s)
+
+      repeated : ℕ → Answer
+      repeated run = Again (record { 0 = num }) run
 
       lies : (ms : List Message) → messagesFrom (length f) f 10 ≡ some ms → Dec (32768 ≤ d) → Dec (64 ≤ d) → Settled
       lies ms e (yes h) _ =
-          settled (Again (record { 0 = num })) (awaited-some ms e .1 ∙ by-number-behind p memory num d ms (w .d-is) h)
-          (rw (awaited-some ms e .0, le-leb 32768 d h))
+          settled (repeated (runFrom p num)) (awaited-some ms e .1 ∙ by-number-behind p memory num d ms (w .d-is) h)
+          (rw (awaited-some ms e .0, le-leb 32768 d h) (ap repeated (at-behind p num d (w .d-is) h)))
       lies ms e (no h) (yes k) =
           settled (refused 6 0) (awaited-some ms e .1 ∙ by-number-ahead p memory num d ms (w .d-is) k (omega (arith, h)))
           (rw (awaited-some ms e .0, lt-leb 32768 d (omega (arith, h)), le-ltb d 64 k))
       lies ms e (no h) (no k) =
           let m = ⊎-elim (λ far. absurd (omega (arith, far, k))) (λ m. m) old in
-          settled (Again (record { 0 = num }))
+          settled (repeated (runFrom p num))
           (awaited-some ms e .1 ∙ by-number-again p memory num d ms (w .d-is) (omega (arith, k)) m)
-          (rw (awaited-some ms e .0, lt-leb 32768 d (omega (arith, h)), lt-ltb d 64 (omega (arith, k))))
+          (rw (awaited-some ms e .0, lt-leb 32768 d (omega (arith, h)), lt-ltb d 64 (omega (arith, k)))
+          (ap repeated (at-window p num d (w .d-is) (omega (arith, k)) (w .marks-fit))))
 
       cut : (r : Option (List Message)) → messagesFrom (length f) f 10 ≡ r → Settled
       cut none e = settled (refused 5 0) (awaited-cut e .1) (rw (awaited-cut e .0))
@@ -171,17 +185,32 @@ module _ (p : Pair) (f memory : List ℕ) (num d : ℕ) (w : Awaited p f num d) 
           (appliedFrom (v .messages) f 10 (p .table) memory .table);
       memory = appliedFrom (v .messages) f 10 (p .table) memory .memory;
       answer = Accepted (record { 0 = num })
-          (record { messages = v .messages; bytes = v .bytes; completed = v .completed });
+          (record { messages = v .messages; bytes = v .bytes; completed = v .completed })
+          (acceptedRun (headPart p) num);
     }
+
+    -- the run is counted before the window moves
+    run-same : (t : Transactions) → runFrom (afterFrame p num t) num ≡ acceptedRun (headPart p) num
+    unfolding acceptedRun
+    run-same t = rw (← (w .d-is)) (sym (after-accepting p num d (w .d-is) t new (w .next-fits) (w .marks-fit)))
 
     taken-new : (ms : List Message) → messagesFrom (length f) f 10 ≡ some ms → found .refusal ≡ 0
         → receiveOf p f memory ≡ effected found
-    unfolding accepting acceptedHead
+    unfolding accepting afterFrame acceptedHead
     taken-new ms e ok =
         let t = taken-all f (length memory) (length f) 10 (noneYet (transactionsOf p)) memory ms refl e ok in
         let n : length ms ≡ found .messages = sym (t .counted ∙ zero-add (length ms)) in
         received-new ms e ∙ ap (concluded p memory num) (t .is)
         ∙ ap (λ (k : ℕ). accepting p num (tallyOfBoth found (appliedFrom k f 10 (p .table) memory))) n
+        ∙ ap withRun (run-same (tallyOfBoth found (appliedFrom (found .messages) f 10 (p .table) memory) .transactions))
+      where
+        withRun : ℕ → Received
+        withRun run = record {
+          pair = effected found .pair;
+          memory = effected found .memory;
+          answer = Accepted (record { 0 = num })
+              (record { messages = found .messages; bytes = found .bytes; completed = found .completed }) run;
+        }
 
     module _ (v : Validated) (right : v ≡ validatedOf f (transactionsOf p) (length memory)) where
       v-is : v ≡ found

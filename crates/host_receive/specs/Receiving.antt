@@ -1,5 +1,5 @@
 -- What the functions of receiving promise over lent words, by what the words hold.
-use Prim.Native.Nat.{ℕ, _≤_, _<_}
+use Prim.Native.Nat.{ℕ, _^_, _≤_, _<_}
 use mathlib.Core.Path.{_≡_}
 use mathlib.Core.Logic.{_≢_}
 use mathlib.Core.Bool.{true, false}
@@ -32,6 +32,8 @@ pub record Awaited (p : Pair) (f : List ℕ) (num d : ℕ) : Type 0 where
   pub flag : flags f ≡ 1
   pub num-is : num ≡ number f
   pub d-is : d ≡ distance frameSpace (p .next .0) num
+  pub next-fits : p .next .0 < frameSpace
+  pub marks-fit : p .marks < 2 ^ 64
 
 -- What is made of it where it is to be taken in.
 abbrev pub TakesFrame : List ℕ → List ℕ → List ℕ → ℕ → List ℕ → List ℕ → Answer → Type 0

@@ -23,7 +23,7 @@ fn take_in(words: &mut [u64], f: &[u8], memory: &mut [u8], number: FrameNo) -> A
     }
     host_apply::apply(words, f, memory, found.messages);
     let lowest = found.lowest;
-    host_number::accept(words, number, lowest, found.closed);
+    let run = host_number::accept(words, number, lowest, found.closed);
     Answer::Accepted(
         number,
         Sums {
@@ -31,6 +31,7 @@ fn take_in(words: &mut [u64], f: &[u8], memory: &mut [u8], number: FrameNo) -> A
             bytes: found.bytes,
             completed: found.completed,
         },
+        run,
     )
 }
 
@@ -54,8 +55,9 @@ pub fn receive_in_place(words: &mut [u64], f: &[u8], memory: &mut [u8]) -> Answe
     let number = head.number;
     let next = host_words::next(words);
     let d = number.distance(next);
-    if !host_number::is_new(host_words::marks(words), d) {
-        return host_refuse::answer_by_number(own, peer, f, number, d);
+    let marks = host_words::marks(words);
+    if !host_number::is_new(marks, d) {
+        return host_refuse::answer_by_number(own, peer, f, number, marks, d);
     }
     take_in(words, f, memory, number)
 }

@@ -8,6 +8,7 @@ use Rattle.wire.specs.Reading.{addressed, readFrame, refusalOf}
 use Rattle.host.specs.declared.Answer.{Answer}
 use Rattle.host.specs.declared.Answer.the-variants.{Again}
 use Rattle.host.specs.Host.{refused}
+use Rattle.host_run.specs.Counting.{runAt}
 
 -- The refusal of a frame's layout, past a refused message too; 0 for none.
 abbrev pub layoutRefusal : ℕ → ℕ → List ℕ → ℕ
@@ -21,9 +22,8 @@ refusedWith own peer f stop place =
 
 -- A frame that is not taken in, by how far it lies past the next one: behind from 32,768 on, in the window up to 63 and
 -- ahead between. Its layout comes first.
-unfoldable pub numberAnswered : ℕ → ℕ → List ℕ → ℕ → ℕ → Answer
-numberAnswered own peer f num d =
+unfoldable pub numberAnswered : ℕ → ℕ → List ℕ → ℕ → ℕ → ℕ → Answer
+numberAnswered own peer f num marks d =
     let cut = layoutRefusal own peer f in
-    cond (eqb cut 0)
-    (cond (leb 32768 d) (Again (record { 0 = num })) (cond (ltb d 64) (Again (record { 0 = num })) (refused 6 0)))
-    (refused cut 0)
+    let again = Again (record { 0 = num }) (runAt marks d) in
+    cond (eqb cut 0) (cond (leb 32768 d) again (cond (ltb d 64) again (refused 6 0))) (refused cut 0)

@@ -6,6 +6,7 @@ use seq::FrameNo;
 ghost use mathlib.Core.Path.{_≡_};
 ghost use Rattle.host.specs.declared.Answer.the-variants.{Again};
 ghost use Rattle.host.specs.Host.{refused};
+ghost use Rattle.host_run.specs.Counting.{runAt};
 ghost use Rattle.host_refuse.specs.Refusing.{refusedWith, numberAnswered};
 
 // Refused, with the number and the place.
@@ -15,10 +16,11 @@ pub fn refusing(number: u8, place: u32) -> Answer
     Answer::Refused(Refusal { number, place })
 }
 
-fn again(number: FrameNo) -> Answer
-    ensures { λ r. ⌜ r ≡ Again number ⌝ }
+// Again, with the run of numbers from its own on.
+fn again(number: FrameNo, marks: u64, d: u16) -> Answer
+    ensures { λ r. ⌜ r ≡ Again number (runAt marks d) ⌝ }
 {
-    Answer::Again(number)
+    Answer::Again(number, host_run::run_at(marks, d))
 }
 
 // The answer to a frame of which a message is refused: its layout, past that message too, comes first.
@@ -34,18 +36,25 @@ pub fn refuse(own: u16, peer: u16, f: &[u8], stop: u8, place: u32) -> Answer
 
 // The answer to a frame with messages, d past the next one, that is behind, ahead, or in the window and accepted
 // already: its layout comes first.
-pub fn answer_by_number(own: u16, peer: u16, f: &[u8], number: FrameNo, d: u16) -> Answer
-    ensures { λ r. ⌜ r ≡ numberAnswered own peer (now (f .entry)) (number .0) d ⌝ }
+pub fn answer_by_number(
+    own: u16,
+    peer: u16,
+    f: &[u8],
+    number: FrameNo,
+    marks: u64,
+    d: u16,
+) -> Answer
+    ensures { λ r. ⌜ r ≡ numberAnswered own peer (now (f .entry)) (number .0) marks d ⌝ }
 {
     let layout = wire_layout::refusal_of(f, own, peer);
     if layout != 0 {
         return refusing(layout, 0);
     }
     if 32768 <= d {
-        return again(number);
+        return again(number, marks, d);
     }
     if d < 64 {
-        return again(number);
+        return again(number, marks, d);
     }
     refusing(refusal::FRAME_AHEAD, 0)
 }

@@ -62,3 +62,8 @@ unfolding pairOf
 entry-at w j h =
     let z : 0 + j ≡ j = omega arith in
     rw z at (entry-in 32 0 w j h)
+
+-- any words hold a frame number of 16 bits
+pub next-lt : (w : List ℕ) → pairOf w .next .0 < 65536
+unfolding pairOf
+next-lt w = omega arith

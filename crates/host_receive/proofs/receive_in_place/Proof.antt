@@ -3,6 +3,7 @@
 use mathlib.Core.Path.{refl, sym, _∙_}
 use borrow.Author.Tests.{not-true, not-false}
 use Rattle.host_words.specs.Words.{pairOf}
+use Rattle.host_words.proofs.Words.{next-lt}
 use Rattle.host_number.proofs.Window.{not-new, new-in}
 use Rattle.host_receive.proofs.Awaiting.{stays, awaited, refused-heading, framed, none-there, answered-by-number}
 use borrow.Author.Needs.{needs}
@@ -99,11 +100,12 @@ returns-4 c =
     (headed .before .heading-refusal .ensures) (headed .if2 .left) in
     let away = c .before .before .before .before .before in
     let w = awaited p (a .f .now) h _ (flagged .before .before .frame-header .ensures) (flagged .if3 .left) _
-    (rw (away .before .next .ensures) at (away .distance .ensures)) in
+    (rw (away .before .next .ensures) at (away .distance .ensures)) (next-lt (a .words .now))
+    (rw (c .before .before .before .marks .ensures) at (c .before .before .before .marks .ok)) in
     let new-is = rw (c .before .before .before .marks .ensures) at (c .before .before .is-new .ensures) in
     let old = not-new (p .marks) _ (sym new-is ∙ not-true _ (c .before .if4 .taken)) in
     let s = stays _ _ _ _ (answered-by-number p (a .f .now) (a .memory .now) _ _ w old) in (
-      λ l. (s .0, s .1, c .answer-by-number .ensures ∙ rw (headed .before .before .before .before .own .ensures, headed .before .before .peer .ensures) (s .2)),
+      λ l. (s .0, s .1, c .answer-by-number .ensures ∙ rw (headed .before .before .before .before .own .ensures, headed .before .before .peer .ensures, c .before .before .before .marks .ensures) (s .2)),
       λ n. absurd (n (sized .if1 .left)),
     )
 
@@ -128,7 +130,8 @@ returns-5 c =
     (headed .before .heading-refusal .ensures) (headed .if2 .left) in
     let away = new .before .before .before .before in
     let w = awaited p (a .f .now) h _ (flagged .before .before .frame-header .ensures) (flagged .if3 .left) _
-    (rw (away .before .next .ensures) at (away .distance .ensures)) in
+    (rw (away .before .next .ensures) at (away .distance .ensures)) (next-lt (a .words .now))
+    (rw (new .before .before .marks .ensures) at (new .before .before .marks .ok)) in
     let new-is = rw (new .before .before .marks .ensures) at (new .before .is-new .ensures) in
     let lies = new-in (p .marks) _ (sym new-is ∙ not-false _ (new .if4 .left)) in
     (λ l. c .before .before .before .before .take-in .ensures _ w (lies .0) (lies .1) l, λ n. absurd (n (sized .if1 .left)))

@@ -62,10 +62,10 @@ returns-2 c =
     let applied = took .apply in
     let n = new-taken (pairOf (a .words .now)) (a .f .now) (a .memory .now) _ d w new clear _
     (passed .before .before .validate .ensures) (passed .if1 .left) in (
-      c .before .before .accept .ensures .1 (applied .kept .0 ∙ l)
+      c .before .before .accept .ensures .1 .1 (applied .kept .0 ∙ l)
           ∙ rw (applied .ensures .0 l .0) (sym (ap (λ (r : Received). r .pair) n)),
       applied .ensures .0 l .1 ∙ sym (ap (λ (r : Received). r .memory) n),
-      sym (ap (λ (r : Received). r .answer) n),
+      rw (c .before .before .accept .ensures .0, applied .ensures .0 l .0) (sym (ap (λ (r : Received). r .answer) n)),
     )
 
 pub take-in-spec : {M : Type 1} → statement M
