@@ -25,7 +25,7 @@ pub extern "C" fn lw_raw_host_receive(
     words: &mut [u64; 67],
     frame: &[u8],
     memory: &mut [u8],
-    answer: &mut [u64; 7],
+    answer: &mut [u64; 8],
 ) -> u32
     ensures { λ r. ⌜ r
         ≡ getD (answerWords (received (now (words .entry)) (now (frame .entry)) (now (memory .entry)) .answer)) 0 0 ⌝ }
@@ -46,21 +46,24 @@ pub extern "C" fn lw_raw_host_receive(
 #[no_mangle]
 pub extern "C" fn lw_raw_host_acknowledge(
     words: &[u64; 67],
-    answer: &[u64; 7],
+    answer: &[u64; 8],
     number: u16,
     frame: &mut [u8; 10],
 ) -> u32
     ensures { λ r. ⌜ r
         ≡ dueNumber (acknowledged (now (words .entry))
-        (answerOf (getD (now (answer .entry)) 0 0) (getD (now (answer .entry)) 1 0)) number) ⌝ }
+        (answerOf (getD (now (answer .entry)) 0 0) (getD (now (answer .entry)) 1 0) (getD (now (answer .entry)) 7 0))
+        number) ⌝ }
     ensures { λ _. ⌜ now (frame .exit)
         ≡ writtenWhereDue (acknowledged (now (words .entry))
-        (answerOf (getD (now (answer .entry)) 0 0) (getD (now (answer .entry)) 1 0)) number)
+        (answerOf (getD (now (answer .entry)) 0 0) (getD (now (answer .entry)) 1 0) (getD (now (answer .entry)) 7 0))
+        number)
         (now (frame .entry)) ⌝ }
 {
     let kind = answer[0];
     let answered = answer[1];
-    let ack = logwhisker::acknowledge_words(words, kind, answered, FrameNo(number));
+    let run = answer[7];
+    let ack = logwhisker::acknowledge_words(words, kind, answered, run, FrameNo(number));
     if ack.due {
         let bytes = ack.frame;
         *frame = bytes;

@@ -68,16 +68,17 @@ pub fn acknowledge(words: &[u64; 67], answer: Answer, number: FrameNo) -> Acknow
     host_answer::acknowledge_in_place(words, answer, number)
 }
 
-// The same where of the answer only its kind and number are at hand, as words.
+// The same where of the answer only its kind, number and run are at hand, as words.
 pub fn acknowledge_words(
     words: &[u64; 67],
     kind: u64,
     answered: u64,
+    run: u64,
     number: FrameNo,
 ) -> Acknowledgement
-    ensures { λ r. ⌜ r ≡ acknowledged (now (words .entry)) (answerOf kind answered) (number .0) ⌝ }
+    ensures { λ r. ⌜ r ≡ acknowledged (now (words .entry)) (answerOf kind answered run) (number .0) ⌝ }
 {
-    host_answer::acknowledge_words(words, kind, answered, number)
+    host_answer::acknowledge_words(words, kind, answered, run, number)
 }
 
 // Describes a host: IDs, windows, and the open transactions, nearest the lowest first.

@@ -19,24 +19,24 @@ answeredLine p line frame memory =
 
 -- The letter and the numbers of an answer's line: A, G, N or R.
 abbrev pub letterOf : Answer → ℕ
-letterOf (Accepted n sums) = 65
-letterOf (Again n) = 71
+letterOf (Accepted n sums run) = 65
+letterOf (Again n run) = 71
 letterOf NoMessages = 78
 letterOf (Refused r) = 82
 
 abbrev pub numbersOf : Answer → List ℕ
-numbersOf (Accepted n sums) = n .0 ∷ sums .messages ∷ sums .bytes ∷ sums .completed ∷ []
-numbersOf (Again n) = n .0 ∷ []
+numbersOf (Accepted n sums run) = n .0 ∷ sums .messages ∷ sums .bytes ∷ sums .completed ∷ []
+numbersOf (Again n run) = n .0 ∷ []
 numbersOf NoMessages = []
 numbersOf (Refused r) = r .number ∷ []
 
 -- The totals after one more answer: sums over accepted frames, in 64 bits.
 abbrev pub totalled : Totals → Answer → Totals
-totalled t (Accepted n sums) = record {
+totalled t (Accepted n sums run) = record {
   messages = (t .messages + sums .messages) % 2 ^ 64;
   bytes = (t .bytes + sums .bytes) % 2 ^ 64;
   completed = (t .completed + sums .completed) % 2 ^ 64;
 }
-totalled t (Again n) = t
+totalled t (Again n run) = t
 totalled t NoMessages = t
 totalled t (Refused r) = t

@@ -41,7 +41,7 @@ pub fn put_answer(out: &mut [u8], at: usize, answer: Answer) -> usize
     ensures { λ _. ⌜ now (out .exit) ≡ withLine (now (out .entry)) at (letterOf answer) (numbersOf answer) ⌝ }
 {
     match answer {
-        Answer::Accepted(n, s) => {
+        Answer::Accepted(n, s, _) => {
             let numbers = [
                 n.0 as u64,
                 s.messages as u64,
@@ -50,7 +50,7 @@ pub fn put_answer(out: &mut [u8], at: usize, answer: Answer) -> usize
             ];
             text_answer::put_line(out, at, b'A', &numbers)
         }
-        Answer::Again(n) => {
+        Answer::Again(n, _) => {
             let numbers = [n.0 as u64];
             text_answer::put_line(out, at, b'G', &numbers)
         }
@@ -71,12 +71,12 @@ impl Totals {
         ensures { λ r. ⌜ r ≡ totalled self answer ⌝ }
     {
         match answer {
-            Answer::Accepted(_, s) => Totals {
+            Answer::Accepted(_, s, _) => Totals {
                 messages: std::num::wrapping_add_u64(self.messages, s.messages as u64),
                 bytes: std::num::wrapping_add_u64(self.bytes, s.bytes as u64),
                 completed: std::num::wrapping_add_u64(self.completed, s.completed as u64),
             },
-            Answer::Again(_) => self,
+            Answer::Again(_, _) => self,
             Answer::NoMessages => self,
             Answer::Refused(_) => self,
         }
