@@ -54,7 +54,8 @@ use Rattle.host.proofs.Receiving.{reading, settled-behind, settled-ahea
 
 -- ---- the run, by the distance of its first number
 
--- The number that follows it is neither behind nor accepted, but where 255 are full, and each of its own is one of them.
+-- The number that follows it is neither behind nor accepted, but where 255 are full; each of its own is one or the
+-- other.
 pub run-longest : (p : Pair) (num : ℕ)
     → (runFrom p num < 255 → settled p (advance frameSpace num (runFrom p num)) ≡ false)
     × ((i : ℕ) → i < runFrom p num → settled p (advance frameSpace num i) ≡ true)

@@ -74,7 +74,7 @@ use Rattle.delivery.specs.System.{
   byCard,
   cardStep,
 }
-use Rattle.delivery.specs.Demand3.{typedCall, ackInTime, ackLateMost, callInTime}
+use Rattle.delivery.specs.Demand3.{typedCall, ackInTime, callInTime}
 use Rattle.delivery.proofs.Book.Along.{along-more, Found, along-at}
 use Rattle.delivery.proofs.Book.Steps.{sound-opening, sound-sealing, sound-handing, withAdded}
 use Rattle.delivery.proofs.Card.CardFor.{SlotFor, framed, open-room, open-done, open-refused, card-opened}

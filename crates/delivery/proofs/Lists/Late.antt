@@ -144,21 +144,21 @@ lateCopy n = rounds n 0 (receives 0 ∷ [])
 lateAck : ℕ → List Event
 lateAck n = rounds n 0 (reads 0 ∷ [])
 
-abbrev ran : List Event → RunResult
+abbrev pub ran : List Event → RunResult
 ran events = run specified (initial specified 2 1 64 slots₀ roundMemory) events
 
-abbrev bookAfter : List Event → Book
+abbrev pub bookAfter : List Event → Book
 bookAfter events = bookOf roundMemory (ran events .observations)
 
 -- The premises of demand 3 on a list, for a card 2 and a host 1.
-record Premises (events : List Event) : Type 0 where
-  typedAll : allTyped events ≡ true
-  inTimeAll : notTooLate (emptyBook roundMemory) (ran events .observations) ≡ true
-  writes : WritesAllowed (bookAfter events)
+pub record Premises (events : List Event) : Type 0 where
+  pub typedAll : allTyped events ≡ true
+  pub inTimeAll : notTooLate (emptyBook roundMemory) (ran events .observations) ≡ true
+  pub writes : WritesAllowed (bookAfter events)
 
 -- ---- after n rounds
 
-first-copy : (n : ℕ) → 0 < n → getElem? (roundCopies n) 0 ≡ some (frameCopy 0)
+pub first-copy : (n : ℕ) → 0 < n → getElem? (roundCopies n) 0 ≡ some (frameCopy 0)
 unfolding roundCopies
 first-copy zero h = absurd (omega arith)
 first-copy (suc zero) h = refl
@@ -232,24 +232,24 @@ module _ (n : ℕ) (hs : List HandOut) (ds : List AckRange) (ys : List Expected)
   page-memory = unwritten-from n 0 (through n) (through-empty 0 n)
 
 module _ (n : ℕ) (some-round : 0 < n) (ys : List Expected) where
-  abbrev now : Book
+  abbrev pub now : Book
   now = page n [] [] [] (roundCopies n) (roundAcks n) ys
 
-  lowest : lowestNotAccepted now ≡ n
+  pub lowest : lowestNotAccepted now ≡ n
   lowest = past-leads (λ x. x .accepted) (λ t. refl) n [] refl
 
-  released : releasedCount now ≡ n
+  pub released : releasedCount now ≡ n
   released = past-leads (λ x. x .acknowledged) (λ t. refl) n [] refl
 
   first-through : frameAt now 0 ≡ done 0
   first-through = past-done 0 n 0 0 [] some-round refl
 
   -- the book after frame 0 came once more, and after its acknowledgement did
-  abbrev copied : Book
+  abbrev pub copied : Book
   copied = page n [] [] [] (roundCopies n) (roundAcks n ++ (record { first = 0; many = min 255 n } ∷ []))
       (ys ++ (expectAgain 0 (min 255 n) ∷ []))
 
-  copy-entered : enterArrival now 0 ≡ copied
+  pub copy-entered : enterArrival now 0 ≡ copied
   unfolding enterArrival
   copy-entered =
       rw (ap (λ (x : FrameRecord). x .accepted) first-through, past-same n markAccepted (λ t. refl), run-through n)
@@ -259,7 +259,7 @@ module _ (n : ℕ) (some-round : 0 < n) (ys : List Expected) where
   ack-entered = ap (λ (l : List FrameRecord). withFrames now l [])
       (past-where markAcknowledged (λ t. refl) (covers (oneFrame 0)) 0 n [])
 
-  arrival : (w : System) → For w now → Arrival w now 0 0 (message 0)
+  pub arrival : (w : System) → For w now → Arrival w now 0 0 (message 0)
   arrival w f = record {
     agree = f;
     copied = first-copy n some-round;
@@ -303,11 +303,24 @@ record CopyAgain (n : ℕ) : Type 0 where
   counted : messagesSum (ran (lateCopy n) .system .answers) ≡ n
   unwritten : ran (lateCopy n) .system .memory ≡ roundMemory
 
-guaranteed : (events : List Event) → Premises events → Guarantees (outcomeOf (ran events .system)) (bookAfter events)
+pub guaranteed : (events : List Event) → Premises events
+    → Guarantees (outcomeOf (ran events .system)) (bookAfter events)
 unfolding Demand3For
 guaranteed events p =
     demand3 2 1 64 slots₀ roundMemory events (specified-in-turn .opensBoth)
     (p .typedAll) (p .inTimeAll) (p .writes)
+
+-- Where n frames were sealed and all are through, the card has none left.
+pub none-left : (events : List Event) (n : ℕ) (hs : List HandOut) (ds : List AckRange) (ys : List Expected)
+    → Premises events → bookAfter events ≡ page n [] [] [] hs ds ys
+    → (length (bookAfter events .frames) ≡ n) × (unreleased (ran events .system .card .window) ≡ 0)
+none-left events n hs ds ys p e = (sealed, omega (arith, guaranteed events p .releasedAgrees, sealed, free))
+  where
+    sealed : length (bookAfter events .frames) ≡ n
+    sealed = ap (λ (b : Book). length (b .frames)) e ∙ past-length 0 n [] ∙ add-zero n
+
+    free : releasedCount (bookAfter events) ≡ n
+    free = ap releasedCount e ∙ past-leads (λ x. x .acknowledged) (λ t. refl) n [] refl
 
 copy-in-time : (n : ℕ) → 0 < n → n ≤ 32768 → CopyAgain n
 unfolding lateCopy numberedAs
@@ -431,13 +444,9 @@ ack-in-time n h few = go (whole specified specified-in-turn true (Through n) n (
           inTimeAll = l .timing;
           writes = l .allowed;
         } in
-        let g = guaranteed (lateAck n) p in
-        let e = l .reached .3 in
-        let sealed : length (bookAfter (lateAck n) .frames) ≡ n =
-        ap (λ (b : Book). length (b .frames)) e ∙ past-length 0 n [] ∙ add-zero n in
-        let free : releasedCount (bookAfter (lateAck n)) ≡ n =
-        ap releasedCount e ∙ past-leads (λ x. x .acknowledged) (λ t. refl) n [] refl in
-        record { premises = p; released = sealed; noneLeft = omega (arith, g .releasedAgrees, sealed, free) }
+        let r = l .reached in
+        let k = none-left (lateAck n) n (r .0) (r .1) (r .2) p (r .3) in
+        record { premises = p; released = k .0; noneLeft = k .1 }
 
 ack-at-limit : AckAgain 32768
 ack-at-limit = ack-in-time 32768 (lit< tt) (lit≤ tt)

@@ -340,9 +340,9 @@ module _ (n : ℕ) (ts : List Transaction) (fs : List FrameRecord) (building : L
     pub unfinished-is : unfinished here ≡ unfinishedFrom n ts (messagesIn anyFrame (past 0 n []))
     unfolding unfinished
     unfinished-is =
-        rw released-messages
-        (unfinished-from n 0 (messagesIn anyFrame (past 0 n [])) (λ i a b. full i (omega arith))
-        ∙ ap (λ (i : ℕ). unfinishedFrom i ts (messagesIn anyFrame (past 0 n []))) (omega arith))
+        ap (unfinishedFrom 0 (spent n ts)) released-messages
+        ∙ unfinished-from n 0 (messagesIn anyFrame (past 0 n [])) (λ i a b. full i (omega arith))
+        ∙ ap (λ (i : ℕ). unfinishedFrom i ts (messagesIn anyFrame (past 0 n []))) (omega arith)
 
     -- those of ts are not among them
     pub not-finished : (d : Transaction) (i : ℕ) → n ≤ i

@@ -568,13 +568,14 @@ module _ (ends : Implementation) (turns : InTurn ends) (timely : Bool) (End : Sy
     through hs′ ds′ zs =
         sym (rw (first-marked, spent-next n [], past-next 0 n n [] (omega arith)) refl)
 
-    round : length hs ≡ n → length ds ≡ n → (xs : List Event)
+    -- One round more. The acknowledgement of its frame is the k-th called for.
+    pub round : (k : ℕ) → length hs ≡ n → length ds ≡ k → (xs : List Event)
         → ((zs : List Expected) → Leading xs (page (suc n) [] [] [] (hs ++ (frameCopy n ∷ []))
         (ds ++ (oneFrame n ∷ [])) zs))
-        → Leading (opens 0 0 0 ∷ adds (n % transSpace) 0 [] ∷ seals ∷ shows (n % frameSpace) ∷ receives n ∷ reads n
+        → Leading (opens 0 0 0 ∷ adds (n % transSpace) 0 [] ∷ seals ∷ shows (n % frameSpace) ∷ receives n ∷ reads k
         ∷ xs) (page n [] [] [] hs ds ys)
     unfolding typed needed messagesIn ofTransaction changeAt
-    round long due xs later =
+    round k long due xs later =
         then-opening n [] [] hs ds ys refl 0 0 0 refl (lit< tt) [] none-else _
         (then-sealing n one [] hs ds ys refl 0 n (n % transSpace) (lit< tt) (omega arith) refl (lit≤ tt) (lit< tt)
         (lit< tt)
@@ -584,8 +585,8 @@ module _ (ends : Implementation) (turns : InTurn ends) (timely : Bool) (End : Sy
         (seam hs (frameCopy n) n long) (omega (arith, lowest))
         (run-alone n 0 n (acceptedFrame n ∷ []) (omega arith) refl refl)
         (page-allowed n one (acceptedFrame n ∷ []) (fitting-one n 0 0) (bares (n ∷ [])) _ _ _) in-turn _
-        (λ zs. then-reading n one (acceptedFrame n ∷ []) hs′ ds′ zs refl n n (seam ds (oneFrame n) n due) (omega arith)
-        (λ w f. turns .readSame w _ n n f (seam ds (oneFrame n) n due)
+        (λ zs. then-reading n one (acceptedFrame n ∷ []) hs′ ds′ zs refl n k (seam ds (oneFrame n) k due) (omega arith)
+        (λ w f. turns .readSame w _ k n f (seam ds (oneFrame n) k due)
         (released-is n one (acceptedFrame n ∷ []) [] hs′ ds′ zs refl)) xs
         (subst (Leading xs) (through hs′ ds′ zs) (later zs))))))
       where
@@ -614,7 +615,7 @@ module _ (ends : Implementation) (turns : InTurn ends) (timely : Bool) (End : Sy
   all-rounds zero n ys xs later =
       subst (λ (m : ℕ). Leading xs (page m [] [] [] (roundCopies m) (roundAcks m) ys)) (omega arith) (later ys)
   all-rounds (suc k) n ys xs later =
-      round n (roundCopies n) (roundAcks n) ys (copies-length n) (acks-length n) (rounds k (suc n) xs)
+      round n (roundCopies n) (roundAcks n) ys n (copies-length n) (acks-length n) (rounds k (suc n) xs)
       (λ zs. all-rounds k (suc n) zs xs
       (λ vs. subst (λ (m : ℕ). Leading xs (page m [] [] [] (roundCopies m) (roundAcks m) vs)) (omega arith)
       (later vs)))
