@@ -18,8 +18,8 @@ pub trait HostEnd {
     fn receive(&mut self, frame: &[u8], memory: &mut [u8], answer: &mut Self::Answer);
     /// Data bytes of an accepted frame, otherwise 0.
     fn bytes(answer: &Self::Answer) -> u64;
-    /// Kind, number, messages, bytes, completed, refusal, place.
-    fn words(answer: &Self::Answer) -> [u64; 7];
+    /// Kind, number, messages, bytes, completed, refusal, place, run.
+    fn words(answer: &Self::Answer) -> [u64; 8];
 }
 
 /// A card that is called for every step; each gives 0 or a refusal's number.
@@ -65,13 +65,14 @@ impl HostEnd for Host {
         }
     }
 
-    fn words(answer: &Answer) -> [u64; 7] {
+    fn words(answer: &Answer) -> [u64; 8] {
         match *answer {
             Answer::Accepted {
                 number,
                 messages,
                 bytes,
                 completed,
+                run,
             } => [
                 1,
                 number.into(),
@@ -80,10 +81,11 @@ impl HostEnd for Host {
                 completed.into(),
                 0,
                 0,
+                run.into(),
             ],
-            Answer::Again(number) => [2, number.into(), 0, 0, 0, 0, 0],
-            Answer::NoMessages => [3, 0, 0, 0, 0, 0, 0],
-            Answer::Refused { number, place } => [4, 0, 0, 0, 0, number.into(), place.into()],
+            Answer::Again { number, run } => [2, number.into(), 0, 0, 0, 0, 0, run.into()],
+            Answer::NoMessages => [3, 0, 0, 0, 0, 0, 0, 0],
+            Answer::Refused { number, place } => [4, 0, 0, 0, 0, number.into(), place.into(), 0],
         }
     }
 }
@@ -195,7 +197,7 @@ pub mod proved {
             answer[3]
         }
 
-        fn words(answer: &Self::Answer) -> [u64; 7] {
+        fn words(answer: &Self::Answer) -> [u64; 8] {
             *answer
         }
     }

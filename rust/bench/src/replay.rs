@@ -58,13 +58,14 @@ pub fn run(mut input: impl BufRead, mut output: impl Write) -> io::Result<()> {
                 messages,
                 bytes,
                 completed,
+                ..
             } => {
                 for (total, more) in totals.iter_mut().zip([messages, bytes, completed]) {
                     *total += u64::from(more);
                 }
                 writeln!(output, "A {number} {messages} {bytes} {completed}")?;
             }
-            Answer::Again(number) => writeln!(output, "G {number}")?,
+            Answer::Again { number, .. } => writeln!(output, "G {number}")?,
             Answer::NoMessages => output.write_all(b"N\n")?,
             Answer::Refused { number, .. } => writeln!(output, "R {number}")?,
         }

@@ -17,13 +17,15 @@ fn converted(answer: host::Answer) -> Answer {
             messages,
             bytes,
             completed,
+            run,
         } => Answer::Accepted {
             number,
             messages: messages as u32,
             bytes: bytes as u32,
             completed: completed as u32,
+            run,
         },
-        host::Answer::Again(number) => Answer::Again(number),
+        host::Answer::Again { number, run } => Answer::Again { number, run },
         host::Answer::NoMessages => Answer::NoMessages,
         host::Answer::Refused { number, place } => Answer::Refused {
             number,

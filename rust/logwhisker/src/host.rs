@@ -18,11 +18,15 @@ pub enum Answer {
         bytes: u32,
         /// Transactions that became complete.
         completed: u32,
+        /// How many frame numbers are acknowledged from this one on, 1 to 255.
+        run: u8,
     },
     /// The frame was accepted before or lies behind: it is acknowledged and not looked at.
     Again {
         /// Frame number.
         number: u16,
+        /// How many frame numbers are acknowledged from this one on, 1 to 255.
+        run: u8,
     },
     /// The frame carries no messages; nothing changed.
     NoMessages,
@@ -38,16 +42,27 @@ pub enum Answer {
 impl Answer {
     /// The answer that the library wrote. Each number fits, as a frame has 9,000 bytes at most.
     fn from_words(words: &[u64; ANSWER_WORDS]) -> Answer {
-        let [kind, number, messages, bytes, completed, refusal, place] = *words;
+        let [
+            kind,
+            number,
+            messages,
+            bytes,
+            completed,
+            refusal,
+            place,
+            run,
+        ] = *words;
         match u32::try_from(kind) {
             Ok(raw::ACCEPTED) => Answer::Accepted {
                 number: number as u16,
                 messages: messages as u32,
                 bytes: bytes as u32,
                 completed: completed as u32,
+                run: run as u8,
             },
             Ok(raw::AGAIN) => Answer::Again {
                 number: number as u16,
+                run: run as u8,
             },
             Ok(raw::NO_MESSAGES) => Answer::NoMessages,
             Ok(raw::REFUSED) => Answer::Refused {
@@ -59,7 +74,7 @@ impl Answer {
         }
     }
 
-    /// The words of this answer: kind, number, messages, bytes, completed, refusal, place.
+    /// The words of this answer: kind, number, messages, bytes, completed, refusal, place, run.
     pub fn words(&self) -> [u64; ANSWER_WORDS] {
         match *self {
             Answer::Accepted {
@@ -67,6 +82,7 @@ impl Answer {
                 messages,
                 bytes,
                 completed,
+                run,
             } => [
                 raw::ACCEPTED.into(),
                 number.into(),
@@ -75,9 +91,13 @@ impl Answer {
                 completed.into(),
                 0,
                 0,
+                run.into(),
             ],
-            Answer::Again { number } => [raw::AGAIN.into(), number.into(), 0, 0, 0, 0, 0],
-            Answer::NoMessages => [raw::NO_MESSAGES.into(), 0, 0, 0, 0, 0, 0],
+            Answer::Again { number, run } => {
+                let kind = raw::AGAIN.into();
+                [kind, number.into(), 0, 0, 0, 0, 0, run.into()]
+            }
+            Answer::NoMessages => [raw::NO_MESSAGES.into(), 0, 0, 0, 0, 0, 0, 0],
             Answer::Refused { refusal, place } => [
                 raw::REFUSED.into(),
                 0,
@@ -86,6 +106,7 @@ impl Answer {
                 0,
                 refusal.number().into(),
                 place.into(),
+                0,
             ],
         }
     }
@@ -196,8 +217,9 @@ impl Host {
         Answer::from_words(&answer)
     }
 
-    /// The acknowledgement to be sent for an answer, if it calls for one. `number` is that of
-    /// the next message frame of this end; one that sends none gives 0.
+    /// The acknowledgement to be sent for an answer, if it calls for one: of the answer's
+    /// number and run. `number` is that of the next message frame of this end; one that sends
+    /// none gives 0.
     pub fn acknowledge(&self, answer: &Answer, number: u16) -> Option<[u8; FRAME_HEADER]> {
         let mut frame = [0; FRAME_HEADER];
         let due = raw::host_acknowledge(&self.words, &answer.words(), number, &mut frame);

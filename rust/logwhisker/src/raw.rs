@@ -9,8 +9,8 @@
 pub const HOST_WORDS: usize = 67;
 /// Words of a card's state.
 pub const CARD_WORDS: usize = 85;
-/// Words of an answer: kind, number, messages, bytes, completed, refusal, place.
-pub const ANSWER_WORDS: usize = 7;
+/// Words of an answer: kind, number, messages, bytes, completed, refusal, place, run.
+pub const ANSWER_WORDS: usize = 8;
 /// Words of a description: own, peer, next, marks, lowest, closed, open, and five for
 /// each of up to 32 open transactions.
 pub const DESCRIPTION_WORDS: usize = 167;

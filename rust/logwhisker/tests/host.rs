@@ -158,6 +158,11 @@ struct Tally {
     /// transaction.
     several_messages: u64,
     several_completed: u64,
+    /// Answers whose run is of more than one number, of more than the window has, and of
+    /// as many as there can be.
+    several_in_run: u64,
+    long_runs: u64,
+    longest_runs: u64,
     /// Accepted frames by the size of memory.
     by_memory: BTreeMap<usize, u64>,
 }
@@ -165,6 +170,11 @@ struct Tally {
 impl Tally {
     fn add(&mut self, memory: usize, answer: Answer) {
         self.frames += 1;
+        if let Answer::Accepted { run, .. } | Answer::Again { run, .. } = answer {
+            self.several_in_run += u64::from(run > 1);
+            self.long_runs += u64::from(run > 64);
+            self.longest_runs += u64::from(run == 255);
+        }
         match answer {
             Answer::Accepted {
                 messages,
@@ -176,7 +186,7 @@ impl Tally {
                 self.several_completed += u64::from(completed > 1);
                 *self.by_memory.entry(memory).or_default() += 1;
             }
-            Answer::Again(_) => self.again += 1,
+            Answer::Again { .. } => self.again += 1,
             Answer::NoMessages => self.no_messages += 1,
             Answer::Refused { number, .. } => self.refused[usize::from(number)] += 1,
         }
@@ -186,6 +196,7 @@ impl Tally {
         println!(
             "seed {seed}: {} frames in {runs} runs or states, {} accepted ({:?} by memory, \
              {} with several messages, {} with several completed), {} again, \
+             {} with several numbers acknowledged, {} with more than 64, {} with 255, \
              {} without messages, refused {:?}",
             self.frames,
             self.accepted,
@@ -193,6 +204,9 @@ impl Tally {
             self.several_messages,
             self.several_completed,
             self.again,
+            self.several_in_run,
+            self.long_runs,
+            self.longest_runs,
             self.no_messages,
             self.refused
         );
@@ -207,6 +221,8 @@ impl Tally {
             ("no messages", self.no_messages, 800),
             ("several messages", self.several_messages, 20_000),
             ("several completed", self.several_completed, 5_000),
+            ("several in a run", self.several_in_run, 2_000),
+            ("the longest run", self.longest_runs, 100),
             ("accepted into 4", in_memory(4), 2_500),
             ("accepted into 68", in_memory(68), 12_000),
             ("accepted into 4,096", in_memory(4_096), 12_000),
@@ -313,7 +329,8 @@ fn frame_numbers_that_come_round() {
     let mut tally = Tally::default();
     run.compare(run.fresh(), |answer| tally.add(run.memory.len(), answer));
     assert_eq!(tally.accepted, written.len() as u64);
-    for met in [tally.again, tally.refused[6], tally.refused[7]] {
+    let late = [tally.again, tally.refused[6], tally.refused[7]];
+    for met in [&late[..], &[tally.several_in_run, tally.longest_runs]].concat() {
         assert!(met > 1_000, "{} again, {:?}", tally.again, tally.refused);
     }
 }
@@ -367,10 +384,13 @@ fn frame_for(words: &[u64; HOST_WORDS], memory: usize, rng: &mut Rng) -> Vec<u8>
     let (next, mut lowest) = ((words[0] >> 32) as u16, words[2] as u32);
     let data = rng.bytes(16);
     let steps = [0, 0, 1, 2, 5, 31, 62, 63, 63, 64, 32_767, 32_768, 65_535];
-    let number = next.wrapping_add(match rng.below(3) {
+    // Behind by so few that marks are in the run, and by just enough for the longest one.
+    let behind = rng.between(65_536 - 260, 65_535) as u16;
+    let number = next.wrapping_add(match rng.below(4) {
         // The lowest one that is not marked, which is the one to be accepted.
         0 => words[1].trailing_ones() as u16,
         1 => rng.pick(&steps),
+        2 if rng.chance(1, 2) => behind,
         _ => rng.below(64) as u16,
     });
     let mut messages = Vec::new();
@@ -489,13 +509,20 @@ fn any_state_is_answered_alike() {
             tally.frames
         );
     }
+    let runs = [
+        tally.several_in_run,
+        tally.long_runs,
+        10 * tally.longest_runs,
+    ];
+    assert!(runs.iter().all(|met| met * 100 > tally.frames), "{runs:?}");
 }
 
-/// Any answer words: kinds 1 and 2 call for an acknowledgement, of the number's low bits.
+/// Any answer words: kinds 1 and 2 call for an acknowledgement, of the low bits of number
+/// and run, unless those of the run are 0.
 #[test]
 fn any_answer_is_acknowledged_alike() {
     let mut rng = Rng::new(number_from_env("LW_SEED", DEFAULT_SEED));
-    let mut due = 0;
+    let (mut due, mut no_run) = (0, 0);
     for _ in 0..200_000 {
         let words = any_words(&mut rng);
         let host = Host::from_words(&words);
@@ -503,8 +530,13 @@ fn any_answer_is_acknowledged_alike() {
         answer.fill_with(|| rng.next_u64());
         let round = 1 << rng.pick(&[8, 16, 32, 63]);
         answer[0] = rng.pick(&[0, 1, 1, 2, 2, 3, 4, 5, 1 + round, 2 + round, answer[0]]);
+        answer[7] = rng.pick(&[0, 1, 2, 255, 256, 257, round, 1 + round, answer[7]]);
         let number = rng.next_u16();
-        let again = Answer::Again(answer[1] as u16);
+        let again = Answer::Again {
+            number: answer[1] as u16,
+            run: answer[7] as u8,
+        };
+        no_run += u32::from(matches!(answer[0], 1 | 2) && answer[7] % 256 == 0);
         let expected = match answer[0] {
             1 | 2 => host.acknowledgement(again, number),
             _ => None,
@@ -515,7 +547,7 @@ fn any_answer_is_acknowledged_alike() {
         assert_eq!(frame, expected.unwrap_or([0x5a; 10]), "{answer:x?}");
         due += got;
     }
-    assert!(due > 50_000);
+    assert!(due > 30_000 && no_run > 10_000, "{due}, {no_run}");
 }
 
 #[test]
@@ -562,8 +594,9 @@ fn whole_case() {
         messages: 1,
         bytes: 4,
         completed: 1,
+        run: 1,
     };
-    for expected in [accepted, Answered::Again { number: 0 }] {
+    for expected in [accepted, Answered::Again { number: 0, run: 1 }] {
         let answer = host.receive(&WHOLE_CASE, &mut memory);
         assert_eq!(answer, expected);
         assert_eq!(
@@ -602,8 +635,39 @@ fn whole_case() {
     assert_eq!(host.acknowledge(&answer, 0), None);
     assert_eq!(
         host.receive(&[], &mut memory).words(),
-        [4, 0, 0, 0, 0, 1, 0]
+        [4, 0, 0, 0, 0, 1, 0, 0]
     );
+}
+
+/// The run of a repeat as the safe type tells and acknowledges it.
+#[test]
+fn runs() {
+    let mut host = Proved::open(1, 2).expect("no ID is 0");
+    let mut memory = [0; 8];
+    let message = Message {
+        completion_address: 0,
+        count: u16::MAX,
+        data: &[],
+        ..whole_message()
+    };
+    for (number, run) in [
+        (65_500, 36),
+        (2, 1),
+        (1, 2),
+        (0, 3),
+        (65_500, 39),
+        (65_200, 255),
+    ] {
+        let frame = write_frame(1, 2, number, &[message]);
+        let answer = host.receive(&frame, &mut memory);
+        let (Answered::Accepted { run: got, .. } | Answered::Again { run: got, .. }) = answer
+        else {
+            panic!("{number}: {answer:?}");
+        };
+        assert_eq!(got, run, "{number}");
+        let expected = wire::ack_frame(2, 1, 7, number, run);
+        assert_eq!(host.acknowledge(&answer, 7), Some(expected));
+    }
 }
 
 /// Memories into which the whole case fits, and does not by a byte, and frames of every

@@ -154,7 +154,7 @@ impl Tally {
                 self.several_completed += u64::from(completed > 1);
                 self.number_0 += u64::from(number == 0);
             }
-            Answer::Again(_) => self.again += 1,
+            Answer::Again { .. } => self.again += 1,
             Answer::NoMessages => self.no_messages += 1,
             Answer::Refused { number, .. } => self.refused[usize::from(number)] += 1,
         }
@@ -488,12 +488,20 @@ impl Suspect {
     }
 }
 
-/// The program does not tell the place.
 fn without_place(answer: Answer) -> Answer {
     match answer {
         Answer::Refused { number, .. } => Answer::Refused { number, place: 0 },
         answer => answer,
     }
+}
+
+/// What the program tells of an answer: not the place, and not the run.
+fn told(answer: Answer) -> Answer {
+    let mut told = without_place(answer);
+    if let Answer::Accepted { run, .. } | Answer::Again { run, .. } = &mut told {
+        *run = 0;
+    }
+    told
 }
 
 /// Lets every fault have the lines until it is seen, and gives when that was.
@@ -512,9 +520,12 @@ fn suspects_seen(mut traffic: Traffic, next: u16, lowest: u32, lines: u64) -> Ve
         assert!(sound.memory() == memory, "without a fault, line {index}");
         for suspect in suspects.iter_mut().filter(|suspect| suspect.seen.is_none()) {
             let got = suspect.faulty.line(line.text);
-            let seen = if got != Some(expected) {
+            let sent = got.and_then(|answer| suspect.faulty.acknowledgement(answer));
+            // What spoils the windows shows in runs too, and it must show in lines.
+            let in_lines = suspect.fault.seen() == Seen::Output;
+            let seen = if got.map(told) != Some(told(expected)) {
                 Seen::Output
-            } else if suspect.faulty.acknowledgement(expected) != acknowledgement {
+            } else if !in_lines && sent != acknowledgement {
                 Seen::Acknowledgement
             } else if suspect.fault.seen() == Seen::Memory && suspect.faulty.memory() != memory {
                 Seen::Memory

@@ -3,13 +3,13 @@
 //! Frames and transactions are counted from 0, without wrapping (D14).
 
 use crate::ends::Start;
-use crate::host::Terms;
+use crate::host::{LONGEST_RUN, Terms};
 use crate::list::Call;
 use crate::replay::Totals;
 
 mod entries;
 
-pub use entries::{Expected, Frame, HandOut, Message, Transaction};
+pub use entries::{Acknowledgement, Expected, Frame, HandOut, Message, Transaction};
 
 /// The book.
 #[derive(Clone, Debug, PartialEq, Eq)]
@@ -20,8 +20,8 @@ pub struct Book {
     frames: Vec<Frame>,
     building: Vec<Message>,
     hand_outs: Vec<HandOut>,
-    /// The frame that each acknowledgement called for is of.
-    acknowledgements: Vec<usize>,
+    /// What each acknowledgement called for is of.
+    acknowledgements: Vec<Acknowledgement>,
     lowest_not_accepted: usize,
     lowest_not_released: usize,
     lowest_unfinished: usize,
@@ -129,12 +129,15 @@ impl Book {
         let Some(HandOut::Frame(frame)) = self.hand_outs.get(copy).copied() else {
             return Expected::NoEffect;
         };
-        // Accepted and again each call for an acknowledgement (H19).
-        self.acknowledgements.push(frame);
-        if self.frames[frame].accepted {
-            return Expected::Again(frame);
-        }
+        let again = self.frames[frame].accepted;
         self.frames[frame].accepted = true;
+        // Accepted and again each call for an acknowledgement (H19).
+        let run = self.run_from(frame);
+        self.acknowledgements
+            .push(Acknowledgement { first: frame, run });
+        if again {
+            return Expected::Again { frame, run };
+        }
         let (mut bytes, mut completed) = (0, Vec::new());
         for message in &self.frames[frame].messages {
             let transaction = &mut self.transactions[message.transaction];
@@ -153,19 +156,29 @@ impl Book {
             messages,
             bytes,
             completed,
+            run,
         }
     }
 
-    /// The acknowledgement's number means the latest frame with it (D15); one that is
-    /// released is not acknowledged again (C14).
+    /// How many frames from this one on are accepted, as far as one acknowledgement
+    /// goes (H19).
+    fn run_from(&self, frame: usize) -> u8 {
+        let frames = self.frames[frame..].iter().take(LONGEST_RUN);
+        frames.take_while(|frame| frame.accepted).count() as u8
+    }
+
+    /// Each of the acknowledgement's numbers means the latest frame with it (D15); one
+    /// that is released is not acknowledged again (C14).
     fn acknowledge(&mut self, copy: usize) {
-        let Some(answered) = self.acknowledgements.get(copy) else {
+        let Some(&Acknowledgement { first, run }) = self.acknowledgements.get(copy) else {
             return;
         };
-        let frame = self.latest_frame(self.frame_number(*answered));
-        let frame = frame.expect("the frame that was answered has the number");
-        if frame >= self.lowest_not_released {
-            self.frames[frame].acknowledged = true;
+        for answered in first..first + usize::from(run) {
+            let frame = self.latest_frame(self.frame_number(answered));
+            let frame = frame.expect("the frame that was accepted has the number");
+            if frame >= self.lowest_not_released {
+                self.frames[frame].acknowledged = true;
+            }
         }
         while self.is(self.lowest_not_released, |frame| frame.acknowledged) {
             self.release();
@@ -283,8 +296,8 @@ impl Book {
         &self.hand_outs
     }
 
-    /// The frames that acknowledgements were called for, in order.
-    pub fn acknowledgements(&self) -> &[usize] {
+    /// What acknowledgements were called for, in order.
+    pub fn acknowledgements(&self) -> &[Acknowledgement] {
         &self.acknowledgements
     }
 

@@ -123,8 +123,9 @@ impl<E: Ends> Program<E> {
     fn received(&self, answer: Answer) -> String {
         let mut text = answer.to_string();
         match answer {
-            // A run is of one number before the request for longer ones.
-            Answer::Accepted { .. } | Answer::Again(_) => text += " run 1",
+            Answer::Accepted { run, .. } | Answer::Again { run, .. } => {
+                append(&mut text, format_args!(" run {run}"));
+            }
             Answer::Refused { place, .. } => append(&mut text, format_args!(" place {place}")),
             Answer::NoMessages => {}
         }

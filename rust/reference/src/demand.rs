@@ -212,27 +212,31 @@ impl<E: Ends> System<E> {
     /// An arrival at the host: its answer has to be the book's, number for number.
     fn arrived(&mut self, expected: &Expected, answer: Answer) -> Result<(), Breach> {
         let breach = || Breach::Answer(expected.clone(), answer);
-        let frame = match expected {
+        let (frame, due) = match *expected {
             Expected::NoEffect => {
                 let nothing = matches!(answer, Answer::NoMessages | Answer::Refused { .. });
                 return if nothing { Ok(()) } else { Err(breach()) };
             }
-            Expected::Accepted { frame, .. } | Expected::Again(frame) => *frame,
-        };
-        let number = self.book.frame_number(frame);
-        let due = match expected {
             Expected::Accepted {
+                frame,
                 messages,
                 bytes,
-                completed,
-                ..
-            } => Answer::Accepted {
-                number,
-                messages: *messages,
-                bytes: *bytes,
-                completed: completed.len() as u64,
-            },
-            _ => Answer::Again(number),
+                ref completed,
+                run,
+            } => {
+                let due = Answer::Accepted {
+                    number: self.book.frame_number(frame),
+                    messages,
+                    bytes,
+                    completed: completed.len() as u64,
+                    run,
+                };
+                (frame, due)
+            }
+            Expected::Again { frame, run } => {
+                let number = self.book.frame_number(frame);
+                (frame, Answer::Again { number, run })
+            }
         };
         if answer != due {
             return Err(breach());

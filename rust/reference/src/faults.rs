@@ -78,6 +78,26 @@ faults! {
     HostSilentOnRepeats => Demand3,
     /// X4: the host answers "again" and calls for no acknowledgement.
     HostRepeatsUnacknowledged => Comparison,
+    /// H19: the run counts one number too many.
+    HostRunOneTooLong => Demand3,
+    /// H19: the answer is right, and its acknowledgement has one number too many.
+    HostAcknowledgesOneMore => Demand3,
+    /// H19: the run is judged before the frame takes effect; the frame itself counts.
+    HostRunBeforeEffect => Demand3,
+    /// H19: the run counts accepted numbers past the next one, and none behind.
+    HostRunOfMarksOnly => Demand3,
+    /// H19: a run has up to 256 numbers, and 256 is 0 in the field's 8 bits.
+    HostRunUpTo256 => Demand3,
+    /// H19: a run has 64 numbers at most, as the window does.
+    HostRunUpTo64 => Demand3,
+    /// H19: answer and acknowledgement tell the run from the number after the frame's.
+    HostRunFromNext => Demand3,
+    /// H19: the acknowledgement of the run starts at the number after the frame's.
+    HostAcknowledgesFromNext => Demand3,
+    /// H19: a repeat is acknowledged alone.
+    HostRepeatsAlone => Demand3,
+    /// H19: every frame is acknowledged alone, whatever the run that is told.
+    HostAcknowledgesAlone => Demand3,
     /// X5: address and length are added in 32 bits.
     HostSumsIn32Bits => Comparison,
     /// The host's frame window, larger and smaller.

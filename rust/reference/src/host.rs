@@ -61,9 +61,16 @@ pub enum Answer {
         bytes: u64,
         /// Transactions that became complete.
         completed: u64,
+        /// How many numbers from this one on are acknowledged (H19).
+        run: u8,
     },
     /// The number is behind or was accepted before.
-    Again(u16),
+    Again {
+        /// Frame number.
+        number: u16,
+        /// As above.
+        run: u8,
+    },
     /// The flag is clear.
     NoMessages,
     /// Nothing changed.
@@ -76,7 +83,7 @@ pub enum Answer {
 }
 
 impl fmt::Display for Answer {
-    /// The replay's line (P4), which does not tell the place.
+    /// The replay's line (P4), which tells neither place nor run.
     fn fmt(&self, f: &mut fmt::Formatter) -> fmt::Result {
         match self {
             Answer::Accepted {
@@ -84,13 +91,17 @@ impl fmt::Display for Answer {
                 messages,
                 bytes,
                 completed,
+                ..
             } => write!(f, "A {number} {messages} {bytes} {completed}"),
-            Answer::Again(number) => write!(f, "G {number}"),
+            Answer::Again { number, .. } => write!(f, "G {number}"),
             Answer::NoMessages => write!(f, "N"),
             Answer::Refused { number, .. } => write!(f, "R {number}"),
         }
     }
 }
+
+/// How many numbers one acknowledgement covers at most (H19).
+pub const LONGEST_RUN: usize = 255;
 
 /// Where a frame number lies, seen from the next one (H4).
 #[derive(Clone, Copy, Debug, PartialEq, Eq)]
@@ -162,16 +173,15 @@ impl Host {
             return Answer::NoMessages;
         }
         let number = frame.header.number;
-        match self.position(number) {
-            Position::Behind => return Answer::Again(number),
-            Position::InWindow if self.is_accepted(number) => return Answer::Again(number),
-            Position::InWindow => {}
-            Position::Ahead => {
-                return Answer::Refused {
-                    number: refusal::FRAME_AHEAD,
-                    place: 0,
-                };
-            }
+        if self.is_behind_or_accepted(number) {
+            let run = self.run(number);
+            return Answer::Again { number, run };
+        }
+        if self.position(number) == Position::Ahead {
+            return Answer::Refused {
+                number: refusal::FRAME_AHEAD,
+                place: 0,
+            };
         }
 
         let mut trial = self.clone();
@@ -195,17 +205,37 @@ impl Host {
             messages: frame.messages.len() as u64,
             bytes,
             completed,
+            run: self.run(number),
         }
     }
 
     /// The acknowledgement that an answer calls for (H19). `next_number` is that of
-    /// the sender's next message frame and is not used up (H21).
+    /// the sender's next message frame and is not used up (H21). A run of 0, which no
+    /// frame is answered with, calls for none.
     pub fn acknowledgement(&self, answer: Answer, next_number: u16) -> Option<[u8; FRAME_HEADER]> {
         match answer {
-            Answer::Accepted { number, .. } | Answer::Again(number) => {
-                Some(wire::ack_frame(self.peer, self.own, next_number, number, 1))
+            Answer::Accepted { number, run, .. } | Answer::Again { number, run } if run > 0 => {
+                let (to, from) = (self.peer, self.own);
+                Some(wire::ack_frame(to, from, next_number, number, run))
             }
-            Answer::NoMessages | Answer::Refused { .. } => None,
+            _ => None,
+        }
+    }
+
+    /// The longest run of numbers from this one on in which each is behind or accepted,
+    /// as the state is now (H19).
+    pub fn run(&self, first: u16) -> u8 {
+        let mut numbers = (0..LONGEST_RUN as u16).map(|step| first.wrapping_add(step));
+        let run = numbers.position(|number| !self.is_behind_or_accepted(number));
+        run.unwrap_or(LONGEST_RUN) as u8
+    }
+
+    /// Whether a frame with this number is answered again (H5).
+    pub fn is_behind_or_accepted(&self, number: u16) -> bool {
+        match self.position(number) {
+            Position::Behind => true,
+            Position::InWindow => self.is_accepted(number),
+            Position::Ahead => false,
         }
     }
 

@@ -9,7 +9,8 @@ use std::ops::Range;
 pub const LATEST: i64 = 32_768;
 
 /// How late the call's arrival is just before it takes effect (D20, D21); it may be
-/// negative. None for other calls, and for copies that do nothing.
+/// negative. Of an acknowledgement its run's first number counts. None for other calls,
+/// and for copies that do nothing.
 pub fn lateness(book: &Book, call: &Call) -> Option<i64> {
     let (lowest, frame) = match call {
         Call::Receive(copy) => match book.hand_outs().get(*copy) {
@@ -18,7 +19,7 @@ pub fn lateness(book: &Book, call: &Call) -> Option<i64> {
         },
         Call::Read(copy) => (
             book.lowest_not_released(),
-            *book.acknowledgements().get(*copy)?,
+            book.acknowledgements().get(*copy)?.first,
         ),
         _ => return None,
     };

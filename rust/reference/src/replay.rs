@@ -299,10 +299,11 @@ mod tests {
             messages: 374,
             bytes: 8_966,
             completed: 374,
+            run: 255,
         };
         for _ in 0..1_000_000 {
             totals.add(most);
-            totals.add(Answer::Again(0));
+            totals.add(Answer::Again { number: 0, run: 1 });
             totals.add(Answer::NoMessages);
             totals.add(Answer::Refused {
                 number: 1,

@@ -330,7 +330,7 @@ impl Simulator {
         }
         self.tally.acknowledgements += 1;
         let copy = book.acknowledgements().len() - 1;
-        self.answers[book.acknowledgements()[copy]] = Some(copy);
+        self.answers[book.acknowledgements()[copy].first] = Some(copy);
         let sent = self.copies_sent();
         self.tally.lost_acknowledgements += u64::from(sent == 0);
         self.acknowledgements_on_way

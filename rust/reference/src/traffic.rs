@@ -5,7 +5,7 @@
 //! A card's book counts frames and transactions without wrapping them, so the answer
 //! to its frames is known apart from the host's own rules and said with the line.
 
-use crate::host::{Answer, Host, Terms};
+use crate::host::{Answer, Host, LONGEST_RUN, Terms};
 use crate::refusal;
 use crate::replay::{MEMORY, OWN, PEER};
 use crate::rng::Rng;
@@ -32,7 +32,7 @@ pub struct Line<'a> {
     pub text: &'a [u8],
     /// How it came about.
     pub family: &'static str,
-    /// The answer where it is known beforehand; the place is not.
+    /// The answer where it is known beforehand, which no message's refusal is.
     pub known: Option<Answer>,
 }
 
@@ -172,6 +172,12 @@ struct Book {
 impl Book {
     fn has(&self, frame: u64) -> bool {
         frame < self.lowest || self.ahead.contains(&frame)
+    }
+
+    /// How many frames from this one on the host has, as far as an acknowledgement goes.
+    fn run(&self, frame: u64) -> u8 {
+        let frames = (frame..).take(LONGEST_RUN);
+        frames.take_while(|frame| self.has(*frame)).count() as u8
     }
 
     fn accept(&mut self, frame: u64) {
@@ -500,7 +506,10 @@ impl Traffic {
         let late = self.book.lowest.saturating_sub(frame);
         if self.book.has(frame) {
             return match late {
-                0..=32_768 => Some(Answer::Again(frame as u16)),
+                0..=32_768 => Some(Answer::Again {
+                    number: frame as u16,
+                    run: self.book.run(frame),
+                }),
                 32_769..=65_472 => Some(Answer::Refused {
                     number: refusal::FRAME_AHEAD,
                     place: 0,
@@ -522,6 +531,7 @@ impl Traffic {
             messages: sealed.messages.len() as u64,
             bytes: sealed.bytes,
             completed,
+            run: self.book.run(frame),
         })
     }
 
@@ -1060,8 +1070,7 @@ mod tests {
             let answer = replay.line(line.text);
             if let Some(known) = line.known {
                 assert_eq!(
-                    answer.to_string(),
-                    known.to_string(),
+                    answer, known,
                     "seed {seed}, line {index}, family '{}'",
                     line.family
                 );
@@ -1080,7 +1089,7 @@ mod tests {
                 assert!(line.known.is_some() || line.family == "late copy");
                 match answer {
                     Answer::Accepted { .. } => known[0] += 1,
-                    Answer::Again(_) => known[1] += 1,
+                    Answer::Again { .. } => known[1] += 1,
                     _ => known[2] += 1,
                 }
             } else {
@@ -1144,7 +1153,7 @@ mod tests {
             let mut other = [0; 3];
             each(seed, kind, 100_000, |_, answer| match answer {
                 Answer::Accepted { .. } => other[0] += 1,
-                Answer::Again(_) => other[1] += 1,
+                Answer::Again { .. } => other[1] += 1,
                 Answer::NoMessages => other[2] += 1,
                 Answer::Refused { number, .. } => met[usize::from(number)] += 1,
             });

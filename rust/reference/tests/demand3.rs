@@ -2,11 +2,11 @@
 //! book after every call, and small ones at the edge of the premises. `LW_SEED` chooses
 //! the seed, `LW_LISTS` the number of short lists and `LW_LONG_LISTS` that of long ones.
 
-use reference::book::Expected;
+use reference::book::{Acknowledgement, Expected};
 use reference::demand::{Breach, Care, Setting, System};
 use reference::ends::{Sound, Start};
 use reference::host::Answer;
-use reference::list::Call;
+use reference::list::{Call, Outcome};
 use reference::premises::{self, Forbidden};
 use reference::rng::Rng;
 use reference::settings::{count_from_env, number_from_env};
@@ -29,6 +29,7 @@ fn met_by_all(tally: &Tally) -> Vec<(&'static str, u64)> {
         ("a lost acknowledgement", tally.lost_acknowledgements),
         ("a repeat", tally.repeats),
         ("a frame out of order", tally.out_of_order),
+        ("a run of several frames", tally.runs),
         ("a copy of an empty part", tally.empty_copies),
         ("a copy of a lent acknowledgement", tally.lent_copies),
         ("a transaction of count 0", tally.bare),
@@ -78,6 +79,7 @@ fn long_lists_keep_the_demand_when_numbers_come_round() {
         met.extend([
             ("a frame exactly 32,768 late", tally.latest_frames),
             ("an acknowledgement so late", tally.latest_acknowledgements),
+            ("a run of 255 frames", tally.longest_runs),
             ("a transaction that outlives its number", tally.came_round),
         ]);
         assert_met(&tally, &met, &[1, 20, 22, 23, 24, 25]);
@@ -158,8 +160,55 @@ fn a_frame_may_be_32768_late_and_not_one_more() {
         number: 6,
         place: 0,
     };
-    let breach = Breach::Answer(Expected::Again(0), refused);
+    let expected = Expected::Again { frame: 0, run: 255 };
+    let breach = Breach::Answer(expected, refused);
     assert_eq!(system.step(&call), Err(breach));
+}
+
+/// The run that an answer acknowledges changes nothing of that: what counts is its first
+/// number, however near its last one is.
+#[test]
+fn an_acknowledgement_is_late_by_its_runs_first_number() {
+    for late in [300, 32_768] {
+        let (mut system, call) = brought_late(late);
+        system.step(&call).unwrap();
+        let acknowledgements = system.book().acknowledgements();
+        let copy = acknowledgements.len() - 1;
+        let expected = Acknowledgement { first: 0, run: 255 };
+        assert_eq!(acknowledgements[copy], expected);
+        let call = Call::Read(copy);
+        assert_eq!(premises::lateness(system.book(), &call), Some(late as i64));
+        assert!(premises::in_time(system.book(), &call));
+        assert_eq!(system.step(&call), Ok(Outcome::Read));
+        // One more frame, and it is one too many.
+        for call in [
+            add(0, 0, &[]),
+            Call::Seal,
+            Call::Show(late as u16),
+            Call::Receive(late),
+            Call::Read(copy + 1),
+        ] {
+            system.step(&call).unwrap();
+        }
+        assert_eq!(premises::in_time(system.book(), &call), late < 32_768);
+    }
+}
+
+/// One acknowledgement of a repeat lets the card release all that the host has.
+#[test]
+fn one_acknowledgement_releases_a_run() {
+    let mut calls = vec![open(u16::MAX, 0)];
+    for frame in 0..64 {
+        calls.extend([add(0, 0, &[]), Call::Seal, Call::Show(frame)]);
+    }
+    // Frame 0 last, so that each is ahead of the hole until then.
+    calls.extend((0..64).rev().map(Call::Receive));
+    let (mut system, breach) = run(4, &calls);
+    assert_eq!(breach, None);
+    assert_eq!(system.book().lowest_not_released(), 0);
+    assert_eq!(system.step(&Call::Read(63)), Ok(Outcome::Read));
+    assert_eq!(system.book().lowest_not_released(), 64);
+    assert_eq!(system.step(&Call::Choose(vec![])), Ok(Outcome::Refused(25)));
 }
 
 /// Runs calls of which none is refused, up to the first breach.

@@ -169,6 +169,17 @@ found_by_demand_3! {
         CardAcknowledgesThrough, Fresh, is_released;
     c18_a_card_that_finishes_a_frame_early: CardFinishesEarly, FullWindow, is_answer;
     x4_a_host_that_is_silent_on_repeats: HostSilentOnRepeats, Fresh, is_answer;
+    h19_a_host_whose_runs_are_one_too_long: HostRunOneTooLong, Fresh, is_answer;
+    h19_a_host_that_acknowledges_one_too_many: HostAcknowledgesOneMore, Fresh, is_released;
+    h19_a_host_that_judges_runs_before_the_effect: HostRunBeforeEffect, Fresh, is_answer;
+    h19_a_host_that_counts_no_number_behind: HostRunOfMarksOnly, Fresh, is_answer;
+    h19_a_host_with_runs_of_256: HostRunUpTo256, Long, is_answer;
+    h19_a_host_with_runs_of_64_at_most: HostRunUpTo64, Long, is_answer;
+    h19_a_host_that_tells_the_run_from_the_next_number: HostRunFromNext, Fresh, is_answer;
+    h19_a_host_that_acknowledges_from_the_next_number:
+        HostAcknowledgesFromNext, Fresh, is_released;
+    h19_a_host_that_acknowledges_repeats_alone: HostRepeatsAlone, Fresh, is_answer;
+    h19_a_host_that_acknowledges_every_frame_alone: HostAcknowledgesAlone, Fresh, is_released;
     a_host_with_a_window_of_63_frames: HostFrames63, Fresh, is_answer;
     a_host_with_a_window_of_31_transactions: HostTransactions31, Fresh, is_answer;
     a_card_with_a_window_of_65_frames: CardFrames65, Fresh, is_answer;

@@ -10,6 +10,7 @@ const MOST_MESSAGES: usize = (LONGEST_FRAME - FRAME_HEADER) / MESSAGE_HEADER;
 const FRAME_WINDOW: u16 = 64;
 const FRAME_BEHIND: u16 = 32_768;
 const TRANSACTION_WINDOW: u32 = 32;
+const LONGEST_RUN: u16 = 255;
 
 /// What a frame is answered.
 #[derive(Clone, Copy, Debug, Default, PartialEq, Eq)]
@@ -24,9 +25,16 @@ pub enum Answer {
         bytes: u32,
         /// Transactions that became complete.
         completed: u32,
+        /// How many numbers from this one on are acknowledged.
+        run: u8,
     },
     /// The number is behind or was accepted before.
-    Again(u16),
+    Again {
+        /// Frame number.
+        number: u16,
+        /// As above.
+        run: u8,
+    },
     /// The flag is clear.
     #[default]
     NoMessages,
@@ -147,7 +155,8 @@ impl Host {
             } else if (FRAME_WINDOW..FRAME_BEHIND).contains(&distance) {
                 refused(6)
             } else {
-                Answer::Again(number)
+                let run = self.run_again(distance);
+                Answer::Again { number, run }
             };
         }
         self.judge(frame, memory, number)
@@ -243,12 +252,13 @@ impl Host {
         self.lowest = lowest;
         self.closed = closed;
         self.write(frame, memory, messages);
-        self.mark(number);
+        let run = self.mark(number);
         Answer::Accepted {
             number,
             messages: messages as u32,
             bytes: bytes as u32,
             completed,
+            run,
         }
     }
 
@@ -280,24 +290,40 @@ impl Host {
         }
     }
 
+    /// Marks an accepted number and gives the run from it on: the ones from its mark on,
+    /// whether or not next then moves past them.
     #[inline(always)]
-    fn mark(&mut self, number: u16) {
-        self.marks |= 1 << number.wrapping_sub(self.next);
-        let run = self.marks.trailing_ones();
-        self.marks = self.marks.checked_shr(run).unwrap_or(0);
-        self.next = self.next.wrapping_add(run as u16);
+    fn mark(&mut self, number: u16) -> u8 {
+        let distance = number.wrapping_sub(self.next);
+        self.marks |= 1 << distance;
+        let run = (self.marks >> distance).trailing_ones() as u8;
+        let passed = self.marks.trailing_ones();
+        self.marks = self.marks.checked_shr(passed).unwrap_or(0);
+        self.next = self.next.wrapping_add(passed as u16);
+        run
+    }
+
+    /// The run from a number on that is accepted or behind. The next one's mark is never
+    /// set, so that a run from behind ends there.
+    #[inline(always)]
+    fn run_again(&self, distance: u16) -> u8 {
+        if distance < FRAME_WINDOW {
+            (self.marks >> distance).trailing_ones() as u8
+        } else {
+            distance.wrapping_neg().min(LONGEST_RUN) as u8
+        }
     }
 
     /// The acknowledgement that an answer calls for.
     pub fn acknowledgement(&self, answer: Answer, next_number: u16) -> Option<[u8; 10]> {
-        let (Answer::Accepted { number, .. } | Answer::Again(number)) = answer else {
+        let (Answer::Accepted { number, run, .. } | Answer::Again { number, run }) = answer else {
             return None;
         };
         let [own_low, own_high, peer_low, peer_high] = self.ids.to_le_bytes();
         let [next_low, next_high] = next_number.to_le_bytes();
         let [low, high] = number.to_le_bytes();
         Some([
-            peer_low, peer_high, own_low, own_high, next_low, next_high, low, high, 1, 0,
+            peer_low, peer_high, own_low, own_high, next_low, next_high, low, high, run, 0,
         ])
     }
 }

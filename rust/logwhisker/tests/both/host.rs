@@ -136,10 +136,14 @@ pub fn answer_words(answer: Answer) -> [u64; ANSWER_WORDS] {
             messages,
             bytes,
             completed,
-        } => [1, number.into(), messages, bytes, completed, 0, 0],
-        Answer::Again(number) => [2, number.into(), 0, 0, 0, 0, 0],
-        Answer::NoMessages => [3, 0, 0, 0, 0, 0, 0],
-        Answer::Refused { number, place } => [4, 0, 0, 0, 0, number.into(), place as u64],
+            run,
+        } => {
+            let number = number.into();
+            [1, number, messages, bytes, completed, 0, 0, run.into()]
+        }
+        Answer::Again { number, run } => [2, number.into(), 0, 0, 0, 0, 0, run.into()],
+        Answer::NoMessages => [3, 0, 0, 0, 0, 0, 0, 0],
+        Answer::Refused { number, place } => [4, 0, 0, 0, 0, number.into(), place as u64, 0],
     }
 }
 

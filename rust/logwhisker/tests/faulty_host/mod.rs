@@ -160,6 +160,20 @@ faults! {
     NextAcknowledged => Acknowledgement,
     AcknowledgedFromPeer => Acknowledgement,
     RefusedAcknowledged => Acknowledgement,
+    RunOneTooLong => Acknowledgement,
+    /// The frame itself counts.
+    RunBeforeEffect => Acknowledgement,
+    /// Accepted ones past the next number, and none behind.
+    RunOfMarksOnly => Acknowledgement,
+    /// Which is 0 in 8 bits.
+    RunUpTo256 => Acknowledgement,
+    RunUpTo64 => Acknowledgement,
+    RunFromNext => Acknowledgement,
+    /// The run is right, and it is acknowledged from the number after the frame's on.
+    RunAcknowledgedFromNext => Acknowledgement,
+    RepeatAlone => Acknowledgement,
+    /// No run is longer than one.
+    EachAlone => Acknowledgement,
 
     // Lines.
     UpperRefused => Output,
@@ -330,7 +344,9 @@ impl Faulty {
         let answer = self.judge(frame);
         match (self.fault, answer) {
             (Some(Fault::RefusesAll), _) => refused(3),
-            (Some(Fault::AgainToAll), Answer::Accepted { number, .. }) => Answer::Again(number),
+            (Some(Fault::AgainToAll), Answer::Accepted { number, run, .. }) => {
+                Answer::Again { number, run }
+            }
             (
                 _,
                 Answer::Accepted {
@@ -338,6 +354,7 @@ impl Faulty {
                     messages,
                     bytes,
                     completed,
+                    run,
                 },
             ) => Answer::Accepted {
                 number,
@@ -345,6 +362,7 @@ impl Faulty {
                 bytes: bytes + u64::from(self.has(Fault::InventsBytes) && bytes > 1_000),
                 completed: completed
                     + u64::from(self.has(Fault::InventsCompleted) && completed > 9),
+                run,
             },
             _ => answer,
         }
@@ -367,7 +385,7 @@ impl Faulty {
         let reserved = flags > 1;
         let number = two(4);
         let step = self.step(number);
-        let again = step == 2 || step == 0 && self.state.marks.contains(&number);
+        let again = self.is_behind_or_accepted(number);
         let ahead = step == 1 && !self.has(Fault::AheadIsAccepted);
 
         if ids && self.has(Fault::ThreeBeforeTwo) {
@@ -399,7 +417,7 @@ impl Faulty {
             return refused(6);
         }
         if again && self.has(Fault::AgainBeforeNoMessages) {
-            return Answer::Again(number);
+            return self.again(number);
         }
         if flags & 1 == 0 || self.has(Fault::AckFieldsMatter) && frame[8] != 0 {
             if self.has(Fault::NoMessagesUsesNumber) && !again && !ahead {
@@ -411,7 +429,7 @@ impl Faulty {
             return refused(6);
         }
         if again && self.has(Fault::AgainBeforeFive) {
-            return Answer::Again(number);
+            return self.again(number);
         }
         let whole = messages.is_some();
         let messages = match messages {
@@ -435,14 +453,14 @@ impl Faulty {
         if again {
             return match self.fault {
                 Some(Fault::BehindIsRefused) if step == 2 => refused(6),
-                _ => Answer::Again(number),
+                _ => self.again(number),
             };
         }
         if ahead {
             return refused(6);
         }
         if self.has(Fault::OnlyFirstAccepted) && self.accepted_any {
-            return Answer::Again(number);
+            return self.again(number);
         }
         match self.take_all(&messages) {
             Ok(_) if !whole => {
@@ -454,7 +472,12 @@ impl Faulty {
                     self.state.memory = before.memory;
                 }
                 self.accepted_any = true;
+                let run_before = self.run(number, 255).max(1);
                 self.mark(number);
+                let run = match self.fault {
+                    Some(Fault::RunBeforeEffect) => run_before,
+                    _ => self.told_run(number),
+                };
                 let counted = |message: &&Message| {
                     !message.data.is_empty() || !self.has(Fault::EmptyMessagesNotCounted)
                 };
@@ -467,6 +490,7 @@ impl Faulty {
                     messages: messages.iter().filter(counted).count() as u64,
                     bytes: bytes as u64,
                     completed,
+                    run,
                 }
             }
             Err(refusal) => {
@@ -483,6 +507,50 @@ impl Faulty {
                 }
                 refused(refusal)
             }
+        }
+    }
+
+    fn again(&self, number: u16) -> Answer {
+        let run = match self.fault {
+            Some(Fault::RepeatAlone) => 1,
+            _ => self.told_run(number),
+        };
+        Answer::Again { number, run }
+    }
+
+    /// How many numbers it says are acknowledged from this one on.
+    fn told_run(&self, number: u16) -> u8 {
+        let run = self.run(number, 255);
+        match self.fault {
+            Some(Fault::RunOneTooLong) => run.saturating_add(1),
+            Some(Fault::RunOfMarksOnly) => {
+                let marks = &self.state.marks;
+                let mut run = 0;
+                while marks.contains(&number.wrapping_add(run)) {
+                    run += 1;
+                }
+                run.max(1) as u8
+            }
+            Some(Fault::RunUpTo256) => self.run(number, 256),
+            Some(Fault::RunUpTo64) => self.run(number, 64),
+            Some(Fault::RunFromNext) => self.run(number.wrapping_add(1), 255),
+            Some(Fault::EachAlone) => 1,
+            _ => run,
+        }
+    }
+
+    fn run(&self, number: u16, most: u16) -> u8 {
+        let mut run = 0;
+        while run < most && self.is_behind_or_accepted(number.wrapping_add(run)) {
+            run += 1;
+        }
+        run as u8
+    }
+
+    fn is_behind_or_accepted(&self, number: u16) -> bool {
+        match self.step(number) {
+            0 => self.state.marks.contains(&number),
+            step => step == 2,
         }
     }
 
@@ -777,14 +845,15 @@ impl Faulty {
 
     /// What is sent to the card for an answer, by a host that is at 0.
     pub fn acknowledgement(&self, answer: Answer) -> Option<[u8; 10]> {
-        let (start, call) = match answer {
-            Answer::Accepted { number, .. } => (number, true),
-            Answer::Again(number) => (number, !self.has(Fault::RepeatNotAcknowledged)),
-            Answer::NoMessages => (0, false),
-            Answer::Refused { .. } => (0, self.has(Fault::RefusedAcknowledged)),
+        let (start, run) = match answer {
+            Answer::Again { .. } if self.has(Fault::RepeatNotAcknowledged) => (0, 0),
+            Answer::Accepted { number, run, .. } | Answer::Again { number, run } => (number, run),
+            Answer::NoMessages => (0, 0),
+            Answer::Refused { .. } => (0, u8::from(self.has(Fault::RefusedAcknowledged))),
         };
         let start = match self.fault {
             Some(Fault::NextAcknowledged) => self.state.next,
+            Some(Fault::RunAcknowledgedFromNext) => start.wrapping_add(1),
             _ => start,
         };
         let [low, high] = start.to_le_bytes();
@@ -792,6 +861,6 @@ impl Faulty {
             Some(Fault::AcknowledgedFromPeer) => [1, 0, 2, 0],
             _ => [2, 0, 1, 0],
         };
-        call.then_some([ids[0], ids[1], ids[2], ids[3], 0, 0, low, high, 1, 0])
+        (run > 0).then_some([ids[0], ids[1], ids[2], ids[3], 0, 0, low, high, run, 0])
     }
 }

@@ -60,6 +60,7 @@ fn main() {
     acknowledgements(&mut script);
     showing_and_choosing(&mut script);
     host(&mut script);
+    runs(&mut script);
     questions(&mut script);
     no_form(&mut script);
 
@@ -324,7 +325,7 @@ fn host(script: &mut Script) {
     ]);
     script.receive(64, &[bare(0)], "R 6 place 0");
     script.receive(32_767, &[bare(0)], "R 6 place 0");
-    let again = "G 32768 run 1 ack 02000100000000800100";
+    let again = "G 32768 run 255 ack 0200010000000080ff00";
     script.receive(32_768, &[bare(0)], again);
     script.receive(0, &[bare(1), bare(32)], "R 7 place 1");
     script.receive(0, &[bare(1), bare(2), bare(1)], "R 8 place 2");
@@ -347,6 +348,49 @@ fn host(script: &mut Script) {
     let state = "own 1 peer 2 next 0 marks 8000000000000000 lowest 0 closed 00000002 [3 0 0 2 1 0]";
     script.line("state", state);
     script.line("memory", &digest(&[0; 8]));
+}
+
+/// What one acknowledgement covers: numbers behind, also those that never came, frames
+/// that a hole keeps apart, and all of them once it is filled. A card then reads a run.
+fn runs(script: &mut Script) {
+    script.line("host 1 2 8", "ok");
+    for (number, answer) in [
+        (65_535, "G 65535 run 1 ack 020001000000ffff0100"),
+        (65_500, "G 65500 run 36 ack 020001000000dcff2400"),
+        (65_282, "G 65282 run 254 ack 02000100000002fffe00"),
+        (65_281, "G 65281 run 255 ack 02000100000001ffff00"),
+        (65_280, "G 65280 run 255 ack 02000100000000ffff00"),
+        (2, "A 2 1 0 0 run 1 ack 02000100000002000100"),
+        (3, "A 3 1 0 0 run 1 ack 02000100000003000100"),
+        (2, "G 2 run 2 ack 02000100000002000200"),
+        (5, "A 5 1 0 0 run 1 ack 02000100000005000100"),
+        (1, "A 1 1 0 0 run 3 ack 02000100000001000300"),
+        (65_535, "G 65535 run 1 ack 020001000000ffff0100"),
+        (0, "A 0 1 0 0 run 4 ack 02000100000000000400"),
+        (65_500, "G 65500 run 40 ack 020001000000dcff2800"),
+        (4, "A 4 1 0 0 run 2 ack 02000100000004000200"),
+        (0, "G 0 run 6 ack 02000100000000000600"),
+        (3, "G 3 run 3 ack 02000100000003000300"),
+        (69, "A 69 1 0 0 run 1 ack 02000100000045000100"),
+        (70, "R 6 place 0"),
+    ] {
+        script.receive(number, &[message(0, 9, &[])], answer);
+    }
+    let state = "own 1 peer 2 next 6 marks 8000000000000000 lowest 0 closed 00000000 [0 0 0 9 7 0]";
+    script.line("state", state);
+
+    script.line("card 2 1 34 2176 0", "ok");
+    script.line("open 9 0 0", "t 0");
+    for number in 0..7 {
+        script.frame(0, number);
+    }
+    let last = hex(&write_frame(1, 2, 6, &[message(0, 9, &[])]));
+    script.lines(&[
+        ("read 020001000000dcff2800", "ok"),
+        ("show 3", "R 25"),
+        ("read 02000100000000000600", "ok"),
+        ("choose -", &format!("slot 204 {last}")),
+    ]);
 }
 
 fn questions(script: &mut Script) {

@@ -65,6 +65,15 @@ pub enum HandOut {
     Frame(usize),
 }
 
+/// An acknowledgement that an answer called for: a run of accepted frames.
+#[derive(Clone, Copy, Debug, PartialEq, Eq)]
+pub struct Acknowledgement {
+    /// The count of the frame that was answered.
+    pub first: usize,
+    /// How many frames it acknowledges from that one on.
+    pub run: u8,
+}
+
 /// What the host owes to an arrival (D17).
 #[derive(Clone, Debug, PartialEq, Eq)]
 pub enum Expected {
@@ -78,9 +87,16 @@ pub enum Expected {
         bytes: u64,
         /// The transactions that it makes complete.
         completed: Vec<usize>,
+        /// How many frames from this one on are then accepted (H19).
+        run: u8,
     },
-    /// A later copy of the frame of this count: again.
-    Again(usize),
+    /// A later copy: again.
+    Again {
+        /// The frame's count.
+        frame: usize,
+        /// As above.
+        run: u8,
+    },
     /// Neither of the two, and nothing happens (D13).
     NoEffect,
 }

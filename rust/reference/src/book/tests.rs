@@ -72,6 +72,7 @@ fn data_comes_with_its_frame_and_the_completion_with_the_last() {
         messages: 1,
         bytes: 1,
         completed: vec![],
+        run: 1,
     };
     assert_eq!(book.enter(&Call::Receive(1), false, &[]), first);
     assert_eq!(book.memory(), [9, 9, 9, 3, 9, 9, 9, 9]);
@@ -81,6 +82,7 @@ fn data_comes_with_its_frame_and_the_completion_with_the_last() {
         messages: 1,
         bytes: 2,
         completed: vec![0],
+        run: 2,
     };
     assert_eq!(book.enter(&Call::Receive(0), false, &[]), last);
     assert_eq!(book.memory(), [1, 2, 9, 3, 1, 2, 3, 4]);
@@ -88,7 +90,7 @@ fn data_comes_with_its_frame_and_the_completion_with_the_last() {
     assert_eq!(book.lowest_not_accepted(), 2);
     assert_eq!(
         book.enter(&Call::Receive(1), false, &[]),
-        Expected::Again(1)
+        Expected::Again { frame: 1, run: 1 }
     );
     let totals = Totals {
         messages: 2,
@@ -175,6 +177,56 @@ fn frames_are_released_in_order_and_then_transactions_finish() {
     assert!(!book.is_settled(), "the bare one is open");
     book.enter(&open(0, 0), false, &[]);
     assert_eq!(book.transactions()[3].unfinished_at_opening, [2]);
+}
+
+/// Frames of one message each of a transaction that never ends, all shown.
+fn shown(frames: u16) -> Book {
+    let mut book = Book::new(&[0; 8], Start::default());
+    book.enter(&open(u16::MAX, 0), false, &[]);
+    for number in 0..frames {
+        enter_all(&mut book, &[add(0, 0, &[]), Call::Seal, Call::Show(number)]);
+    }
+    book
+}
+
+#[test]
+fn a_run_acknowledges_each_of_its_frames() {
+    let mut book = shown(5);
+    for (frame, run) in [(2, 1), (1, 2), (4, 1), (0, 3), (1, 2), (3, 2), (0, 5)] {
+        let expected = book.enter(&Call::Receive(frame), false, &[]);
+        let (Expected::Accepted { run: got, .. } | Expected::Again { run: got, .. }) = expected
+        else {
+            panic!("{expected:?}");
+        };
+        assert_eq!(got, run, "{frame}");
+        let last = book.acknowledgements().last();
+        assert_eq!(last, Some(&Acknowledgement { first: frame, run }));
+    }
+    // Frames 1 and 2, then 3 and 4; what came after an answer is not in its run.
+    for (copy, released) in [(1, 0), (5, 0), (3, 5)] {
+        book.enter(&Call::Read(copy), false, &[]);
+        assert_eq!(book.lowest_not_released(), released);
+    }
+    let mut book = shown(2);
+    enter_all(
+        &mut book,
+        &[Call::Receive(0), Call::Receive(1), Call::Read(0)],
+    );
+    assert_eq!(book.lowest_not_released(), 1);
+}
+
+#[test]
+fn a_run_has_255_frames_at_most() {
+    let mut book = shown(300);
+    for frame in (0..300).rev() {
+        book.enter(&Call::Receive(frame), false, &[]);
+    }
+    let runs: Vec<u8> = book.acknowledgements().iter().map(|of| of.run).collect();
+    assert_eq!(runs[..3], [1, 2, 3]);
+    assert_eq!(runs[253..257], [254, 255, 255, 255]);
+    assert_eq!(runs[299], 255);
+    book.enter(&Call::Read(299), false, &[]);
+    assert_eq!(book.lowest_not_released(), 255);
 }
 
 #[test]

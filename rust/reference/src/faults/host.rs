@@ -3,7 +3,7 @@
 
 use super::Fault;
 use crate::ends::HostEnd;
-use crate::host::{Answer, Host};
+use crate::host::{Answer, Host, LONGEST_RUN};
 use crate::refusal;
 use crate::wire::{self, FRAME_HEADER, Message};
 
@@ -35,18 +35,20 @@ impl FaultyHost {
     fn hasty_answer(&self, frame: &[u8]) -> Option<Answer> {
         let (number, messages) = self.read(frame)?;
         let refused = |number, place| Some(Answer::Refused { number, place });
+        let run = self.host.run(number).max(1);
+        let again = Answer::Again { number, run };
         let next = self.host.next();
         match self.fault? {
             Fault::HostRefusesAll => refused(refusal::FRAME_AHEAD, 0),
-            Fault::HostAgainToAll => Some(Answer::Again(number)),
-            Fault::HostTakesFirstOnly if self.accepted > 0 => Some(Answer::Again(number)),
-            Fault::HostFramesByLessThan if number < next => Some(Answer::Again(number)),
+            Fault::HostAgainToAll => Some(again),
+            Fault::HostTakesFirstOnly if self.accepted > 0 => Some(again),
+            Fault::HostFramesByLessThan if number < next => Some(again),
             Fault::HostFramesByLessThan if number - next >= 64 => refused(refusal::FRAME_AHEAD, 0),
             Fault::HostTransactionsByLessThan => {
                 let lowest = self.host.lowest();
                 let old = |message: &Message| message.transaction < lowest;
                 let place = messages.iter().position(old)?;
-                let new = !matches!(self.answer_only(frame), Answer::Again(_));
+                let new = !matches!(self.answer_only(frame), Answer::Again { .. });
                 new.then_some(Answer::Refused {
                     number: refusal::TRANSACTION_OUTSIDE,
                     place,
@@ -59,6 +61,40 @@ impl FaultyHost {
     /// What the reference answers, with no effect.
     fn answer_only(&self, frame: &[u8]) -> Answer {
         self.host.clone().receive(frame, &mut [])
+    }
+
+    /// The run that it tells of a frame, given the right one; the frame itself counts.
+    fn spoilt_run(&self, before: &Host, number: u16, run: u8) -> u8 {
+        let next = number.wrapping_add(1);
+        let up_to = |most: usize| {
+            let mut numbers = (0..most as u16).map(|step| number.wrapping_add(step));
+            let end = numbers.position(|number| !self.host.is_behind_or_accepted(number));
+            end.unwrap_or(most) as u8
+        };
+        let marked = (0..LONGEST_RUN as u16).map(|step| number.wrapping_add(step));
+        let marked = marked.take_while(|number| self.host.is_accepted(*number));
+        match self.fault {
+            Some(Fault::HostRunOneTooLong) => run.saturating_add(1),
+            Some(Fault::HostRunBeforeEffect) => before.run(number).max(1),
+            Some(Fault::HostRunOfMarksOnly) => (marked.count() as u8).max(1),
+            Some(Fault::HostRunUpTo256) => up_to(256),
+            Some(Fault::HostRunUpTo64) => up_to(64),
+            Some(Fault::HostRunFromNext) => self.host.run(next),
+            _ => run,
+        }
+    }
+
+    /// The answer as its acknowledgement tells it.
+    fn acknowledged(&self, mut answer: Answer) -> Answer {
+        if let Answer::Accepted { number, run, .. } | Answer::Again { number, run } = &mut answer {
+            match self.fault {
+                Some(Fault::HostAcknowledgesOneMore) => *run = run.saturating_add(1),
+                Some(Fault::HostAcknowledgesFromNext) => *number = number.wrapping_add(1),
+                Some(Fault::HostAcknowledgesAlone) => *run = 1,
+                _ => {}
+            }
+        }
+        answer
     }
 
     /// Lets the messages before a refused one be written, and forgets them.
@@ -106,7 +142,11 @@ impl HostEnd for FaultyHost {
             return self.host.receive(&frame, &mut memory.to_vec());
         }
         let before = memory.to_vec();
+        let host_before = self.host.clone();
         let mut answer = self.host.receive(frame, memory);
+        if let Answer::Accepted { number, run, .. } | Answer::Again { number, run } = &mut answer {
+            *run = self.spoilt_run(&host_before, *number, *run);
+        }
         match (self.fault, &mut answer) {
             (Some(Fault::HostWritesFirstOnly), Answer::Accepted { .. }) if self.accepted > 0 => {
                 memory.copy_from_slice(&before);
@@ -118,10 +158,13 @@ impl HostEnd for FaultyHost {
                     bytes, completed, ..
                 },
             ) => *bytes += 4 * *completed,
+            (Some(Fault::HostRepeatsAlone), Answer::Again { run, .. }) => *run = 1,
             (Some(Fault::HostWritesBeforeJudging), Answer::Refused { place, .. }) => {
                 self.write_good_messages(frame, *place, memory);
             }
-            (Some(Fault::HostSilentOnRepeats), Answer::Again(_)) => answer = Answer::NoMessages,
+            (Some(Fault::HostSilentOnRepeats), Answer::Again { .. }) => {
+                answer = Answer::NoMessages;
+            }
             _ => {}
         }
         self.accepted += u64::from(matches!(answer, Answer::Accepted { .. }));
@@ -130,8 +173,11 @@ impl HostEnd for FaultyHost {
 
     fn acknowledgement(&self, answer: Answer, next_number: u16) -> Option<[u8; FRAME_HEADER]> {
         match (self.fault, answer) {
-            (Some(Fault::HostRepeatsUnacknowledged), Answer::Again(_)) => None,
-            _ => self.host.acknowledgement(answer, next_number),
+            (Some(Fault::HostRepeatsUnacknowledged), Answer::Again { .. }) => None,
+            _ => {
+                let answer = self.acknowledged(answer);
+                self.host.acknowledgement(answer, next_number)
+            }
         }
     }
 

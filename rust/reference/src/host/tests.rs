@@ -6,6 +6,8 @@ use super::*;
 use crate::cases::{WHOLE_CASE, WHOLE_CASE_ACKNOWLEDGEMENT};
 use crate::wire::write_frame;
 
+mod runs;
+
 const MEMORY: usize = 4_096;
 
 /// A bare completion of value 0 at address 0.
@@ -92,7 +94,8 @@ fn whole_case_with_memory_and_acknowledgement() {
             number: 0,
             messages: 1,
             bytes: 4,
-            completed: 1
+            completed: 1,
+            run: 1
         }
     );
     let mut expected = vec![0; MEMORY];
@@ -104,7 +107,7 @@ fn whole_case_with_memory_and_acknowledgement() {
         Some(WHOLE_CASE_ACKNOWLEDGEMENT)
     );
     let second = fixture.raw(&WHOLE_CASE);
-    assert_eq!(second, Answer::Again(0));
+    assert_eq!(second, Answer::Again { number: 0, run: 1 });
     assert_eq!(fixture.memory, expected);
     assert_eq!(
         fixture.host.acknowledgement(second, 0),
@@ -113,18 +116,27 @@ fn whole_case_with_memory_and_acknowledgement() {
 }
 
 #[test]
-fn acknowledgements_carry_the_callers_number_and_name_one_frame() {
+fn acknowledgements_carry_the_callers_number_and_name_the_run() {
     let host = Host::starting_at(0x0102, 0x0304, 7, 7);
     let accepted = Answer::Accepted {
         number: 0x0506,
         messages: 3,
         bytes: 4,
         completed: 2,
+        run: 9,
     };
-    let expected = [4, 3, 2, 1, 8, 7, 6, 5, 1, 0];
+    let expected = [4, 3, 2, 1, 8, 7, 6, 5, 9, 0];
     assert_eq!(host.acknowledgement(accepted, 0x0708), Some(expected));
-    let again = Answer::Again(0x0506);
-    assert_eq!(host.acknowledgement(again, 0x0708), Some(expected));
+    let again = |run| Answer::Again {
+        number: 0x0506,
+        run,
+    };
+    assert_eq!(host.acknowledgement(again(9), 0x0708), Some(expected));
+    assert_eq!(
+        host.acknowledgement(again(255), 0).unwrap()[6..9],
+        [6, 5, 255]
+    );
+    assert_eq!(host.acknowledgement(again(0), 0), None, "no frame's answer");
     assert_eq!(host.acknowledgement(Answer::NoMessages, 0), None);
     for number in 1..=14 {
         assert_eq!(host.acknowledgement(refused(number, 0), 0), None);
@@ -144,7 +156,8 @@ fn opening_with_an_id_of_0_gives_an_end_with_both_at_0() {
         assert_eq!(host.receive(&frame, &mut memory), refused(11, 0));
         let frame = write_frame(0, 0, 0, &[]);
         assert_eq!(host.receive(&frame, &mut memory), Answer::NoMessages);
-        let acknowledgement = host.acknowledgement(Answer::Again(9), 0);
+        let again = Answer::Again { number: 9, run: 1 };
+        let acknowledgement = host.acknowledgement(again, 0);
         assert_eq!(acknowledgement, Some([0, 0, 0, 0, 0, 0, 9, 0, 1, 0]));
     }
     // Equal IDs are as good as any.

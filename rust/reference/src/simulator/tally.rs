@@ -2,7 +2,7 @@
 //! next to nothing.
 
 use crate::book::{Book, HandOut};
-use crate::host::Answer;
+use crate::host::{Answer, LONGEST_RUN};
 use crate::list::{Call, Outcome};
 use crate::premises;
 
@@ -23,6 +23,10 @@ pub struct Tally {
     pub out_of_order: u64,
     /// Copies answered again.
     pub repeats: u64,
+    /// Answers whose run is of more than one number, and of as many as there can be.
+    pub runs: u64,
+    /// As above.
+    pub longest_runs: u64,
     /// Frames and acknowledgements that came late by exactly as much as is allowed.
     pub latest_frames: u64,
     /// As above.
@@ -78,8 +82,14 @@ impl Tally {
         self.settled += u64::from(book.is_settled() && !book.transactions().is_empty());
         match outcome {
             Outcome::Refused(number) => self.refused[usize::from(*number)] += 1,
-            Outcome::Answered(Answer::Accepted { .. }) => self.accepted += 1,
-            Outcome::Answered(Answer::Again(_)) => self.repeats += 1,
+            Outcome::Answered(Answer::Accepted { run, .. }) => {
+                self.accepted += 1;
+                self.note_run(*run);
+            }
+            Outcome::Answered(Answer::Again { run, .. }) => {
+                self.repeats += 1;
+                self.note_run(*run);
+            }
             Outcome::Opened(number) => {
                 self.last_frames.push(0);
                 let wraps = *number == 0 && book.transactions().len() > 1;
@@ -93,6 +103,11 @@ impl Tally {
             Outcome::Read => self.note_finished(book),
             _ => {}
         }
+    }
+
+    fn note_run(&mut self, run: u8) {
+        self.runs += u64::from(run > 1);
+        self.longest_runs += u64::from(usize::from(run) == LONGEST_RUN);
     }
 
     fn note_added(&mut self, book: &Book) {
@@ -119,6 +134,8 @@ impl Tally {
         self.accepted += other.accepted;
         self.out_of_order += other.out_of_order;
         self.repeats += other.repeats;
+        self.runs += other.runs;
+        self.longest_runs += other.longest_runs;
         self.latest_frames += other.latest_frames;
         self.latest_acknowledgements += other.latest_acknowledgements;
         self.empty_copies += other.empty_copies;
