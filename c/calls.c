@@ -302,11 +302,11 @@ static void put_answer(const lw_answer *answer)
 {
     switch (answer->kind) {
     case LW_ACCEPTED:
-        printf("A %" PRIu64 " %" PRIu64 " %" PRIu64 " %" PRIu64 " run 1", answer->number,
-               answer->messages, answer->bytes, answer->completed);
+        printf("A %" PRIu64 " %" PRIu64 " %" PRIu64 " %" PRIu64 " run %" PRIu64, answer->number,
+               answer->messages, answer->bytes, answer->completed, answer->run);
         break;
     case LW_AGAIN:
-        printf("G %" PRIu64 " run 1", answer->number);
+        printf("G %" PRIu64 " run %" PRIu64, answer->number, answer->run);
         break;
     case LW_NO_MESSAGES:
         putchar('N');

@@ -112,6 +112,7 @@ static void check_answer(unsigned long at, const lw_answer *got, lw_answer want)
     check("completed", at, got->completed, want.completed);
     check("refusal", at, got->refusal, want.refusal);
     check("place", at, got->place, want.place);
+    check("run", at, got->run, want.run);
 }
 
 /* Receives a frame and checks the answer, of which what is not given is 0. Unless it
@@ -133,21 +134,29 @@ static void check_receive(unsigned long at, struct receiver *receiver, const uin
     }
 }
 
+/* With a run of one. */
 static lw_answer accepted(uint64_t number, uint64_t messages, uint64_t bytes, uint64_t completed)
 {
-    const lw_answer answer = {LW_ACCEPTED, number, messages, bytes, completed, 0, 0};
+    const lw_answer answer = {LW_ACCEPTED, number, messages, bytes, completed, 0, 0, 1};
     return answer;
 }
 
+/* With a run of one. */
 static lw_answer again(uint64_t number)
 {
-    const lw_answer answer = {LW_AGAIN, number, 0, 0, 0, 0, 0};
+    const lw_answer answer = {LW_AGAIN, number, 0, 0, 0, 0, 0, 1};
+    return answer;
+}
+
+static lw_answer with_run(lw_answer answer, uint64_t run)
+{
+    answer.run = run;
     return answer;
 }
 
 static lw_answer refused(uint64_t refusal, uint64_t place)
 {
-    const lw_answer answer = {LW_REFUSED, 0, 0, 0, 0, refusal, place};
+    const lw_answer answer = {LW_REFUSED, 0, 0, 0, 0, refusal, place, 0};
     return answer;
 }
 
@@ -187,17 +196,22 @@ static void check_acknowledgements(void)
 {
     const struct receiver receiver = fresh_receiver();
     uint8_t acknowledgement[LW_ACKNOWLEDGEMENT];
-    const uint8_t want[LW_ACKNOWLEDGEMENT] = {PEER, 0, OWN, 0, 0x34, 0x12, 0xfe, 0xff, 1, 0};
-    const lw_answer high = again(65534);
+    uint8_t want[LW_ACKNOWLEDGEMENT] = {PEER, 0, OWN, 0, 0x34, 0x12, 0xfe, 0xff, 0, 0};
 
-    check("due", 0, lw_host_acknowledge(&receiver.host, &high, 0x1234, acknowledgement), 1);
-    check_bytes("bytes", 0, acknowledgement, want, sizeof want);
-
-    /* No other answer calls for one, and then nothing is written. */
-    for (unsigned kind = 0; kind < 300; kind++) {
-        const lw_answer answer = {.kind = kind, .number = 5};
-        if (kind == LW_ACCEPTED || kind == LW_AGAIN)
+    /* Of the run's word the low 8 bits count. */
+    for (unsigned run = 1; run < 600; run++) {
+        const lw_answer high = with_run(again(65534), run);
+        want[8] = (uint8_t)run;
+        if (want[8] == 0)
             continue;
+        check("due", run, lw_host_acknowledge(&receiver.host, &high, 0x1234, acknowledgement), 1);
+        check_bytes("bytes", run, acknowledgement, want, sizeof want);
+    }
+
+    /* No other answer calls for one, nor does a run of none, and then nothing is written. */
+    for (unsigned kind = 0; kind < 300; kind++) {
+        const int due = kind == LW_ACCEPTED || kind == LW_AGAIN;
+        const lw_answer answer = {.kind = kind, .number = 5, .run = due ? 0 : 1};
         memset(acknowledgement, 0xee, sizeof acknowledgement);
         check("due", kind, lw_host_acknowledge(&receiver.host, &answer, 0, acknowledgement), 0);
         for (size_t i = 0; i < sizeof acknowledgement; i++)
@@ -262,7 +276,7 @@ static void check_frame_window(void)
 
     check_frame(64, &receiver, 64, &message, 1, refused(LW_REFUSED_FRAME_AHEAD, 0));
     check_frame(32767, &receiver, 32767, &message, 1, refused(LW_REFUSED_FRAME_AHEAD, 0));
-    check_frame(32768, &receiver, 32768, &message, 1, again(32768));
+    check_frame(32768, &receiver, 32768, &message, 1, with_run(again(32768), 255));
     check_frame(65535, &receiver, 65535, &message, 1, again(65535));
     check_frame(63, &receiver, 63, &message, 1, accepted(63, 1, 0, 1));
     check_frame(63, &receiver, 63, &message, 1, again(63));
@@ -273,13 +287,70 @@ static void check_frame_window(void)
     check("marks", 0, description.marks, (uint64_t)1 << 63);
     for (uint32_t number = 0; number < 63; number++) {
         const struct message next = bare(1 + number);
-        check_frame(number, &receiver, number, &next, 1, accepted(number, 1, 0, 1));
+        /* The last one joins frame 63. */
+        check_frame(number, &receiver, number, &next, 1,
+                    with_run(accepted(number, 1, 0, 1), number == 62 ? 2 : 1));
     }
     lw_host_describe(&receiver.host, &description);
     check("next moved past all", 0, description.next, 64);
     check("marks", 0, description.marks, 0);
     check("lowest", 0, description.lowest, 64);
     end_group("window of frames");
+}
+
+/* What one acknowledgement covers: numbers behind, also those that never came, frames
+ * that a hole keeps apart, and all of them once it is filled. */
+static void check_runs(void)
+{
+    static const struct {
+        uint32_t number;
+        uint32_t kind;
+        uint64_t run;
+    } cases[] = {
+        {65535, LW_AGAIN, 1},  {65500, LW_AGAIN, 36},   {65282, LW_AGAIN, 254},
+        {65281, LW_AGAIN, 255}, {65280, LW_AGAIN, 255}, {2, LW_ACCEPTED, 1},
+        {3, LW_ACCEPTED, 1},   {2, LW_AGAIN, 2},        {5, LW_ACCEPTED, 1},
+        {1, LW_ACCEPTED, 3},   {65535, LW_AGAIN, 1},    {0, LW_ACCEPTED, 4},
+        {65500, LW_AGAIN, 40}, {4, LW_ACCEPTED, 2},     {0, LW_AGAIN, 6},
+    };
+    const struct message message = {.count = 65535};
+    struct receiver receiver = fresh_receiver();
+
+    for (size_t i = 0; i < sizeof cases / sizeof cases[0]; i++) {
+        const uint32_t number = cases[i].number;
+        const lw_answer one =
+            cases[i].kind == LW_AGAIN ? again(number) : accepted(number, 1, 0, 0);
+        const lw_answer want = with_run(one, cases[i].run);
+        uint8_t acknowledgement[LW_ACKNOWLEDGEMENT];
+        check_frame(i, &receiver, number, &message, 1, want);
+        check("due", i, lw_host_acknowledge(&receiver.host, &want, 0, acknowledgement), 1);
+        check("start", i, lw_ack_start(acknowledgement, sizeof acknowledgement), number);
+        check("count", i, lw_ack_count(acknowledgement, sizeof acknowledgement), want.run);
+    }
+    for (uint32_t number = 6; number < 300; number++)
+        check_frame(number, &receiver, number, &message, 1, accepted(number, 1, 0, 0));
+    check_frame(0, &receiver, 0, &message, 1, with_run(again(0), 255));
+    check_frame(45, &receiver, 45, &message, 1, with_run(again(45), 255));
+    check_frame(46, &receiver, 46, &message, 1, with_run(again(46), 254));
+    end_group("runs");
+}
+
+/* All 64 marks set, which no run of a host reaches: a run ends with the window. */
+static void check_all_marks(void)
+{
+    const struct message message = {.count = 65535};
+    struct receiver receiver = fresh_receiver();
+
+    receiver.host.words[1] = UINT64_MAX;
+    for (uint32_t number = 0; number < 64; number++)
+        check_frame(number, &receiver, number, &message, 1, with_run(again(number), 64 - number));
+    check_frame(64, &receiver, 64, &message, 1, refused(LW_REFUSED_FRAME_AHEAD, 0));
+    for (uint32_t behind = 1; behind < 300; behind++) {
+        const uint32_t number = 65536 - behind;
+        const uint64_t run = behind + 64 < 255 ? behind + 64 : 255;
+        check_frame(number, &receiver, number, &message, 1, with_run(again(number), run));
+    }
+    end_group("all marks set");
 }
 
 /* Receives a good message and then this one, for which both are refused. */
@@ -716,6 +787,7 @@ static void check_coming_round(void)
                               sizeof receiver.memory, &answer),
               LW_ACCEPTED);
         check("number", i, answer.number, i % 65536);
+        check("run", i, answer.run, 1);
         check_bytes("data", i, receiver.memory, data, sizeof data);
         put32(data, ~i);
         check_bytes("completion", i, receiver.memory + 64, data, sizeof data);
@@ -808,6 +880,7 @@ static void check_wild_hosts(void)
     uint8_t *const frame = with_closed_end(LENGTH);
     uint64_t seed = 1;
     unsigned long taken = 0;
+    unsigned long longer = 0;
 
     for (unsigned long i = 0; i < 30000; i++) {
         uint8_t acknowledgement[LW_ACKNOWLEDGEMENT];
@@ -825,10 +898,15 @@ static void check_wild_hosts(void)
         put16(frame + 2, (uint32_t)state.peer);
         const uint32_t kind = lw_host_receive(&host, frame, LENGTH, memory, SIZE, &answer);
         check("kind", i, kind == answer.kind && kind >= LW_ACCEPTED && kind <= LW_REFUSED, 1);
-        check("due", i, lw_host_acknowledge(&host, &answer, 0, acknowledgement),
-              kind == LW_ACCEPTED || kind == LW_AGAIN);
+        const unsigned due = kind == LW_ACCEPTED || kind == LW_AGAIN;
+        check("due", i, lw_host_acknowledge(&host, &answer, 0, acknowledgement), due);
+        check("run", i, due ? answer.run >= 1 && answer.run <= 255 : answer.run == 0, 1);
+        if (due)
+            check("count", i, lw_ack_count(acknowledgement, sizeof acknowledgement), answer.run);
         taken += kind == LW_ACCEPTED;
+        longer += answer.run > 1;
     }
+    check("many had longer runs", longer, longer > 1000, 1);
     check("many were accepted", taken, taken > 1000, 1);
     end_group("hosts of any words");
 }
@@ -953,6 +1031,8 @@ int main(void)
     check_host_opening();
     check_wire_refusals();
     check_frame_window();
+    check_runs();
+    check_all_marks();
     check_transaction_refusals();
     check_memory_refusals();
     check_description();

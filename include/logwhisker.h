@@ -29,7 +29,7 @@
 #include <stddef.h>
 #include <stdint.h>
 
-#define LW_VERSION "0.2.0"
+#define LW_VERSION "0.3.0"
 
 #ifdef __cplusplus
 extern "C" {
@@ -131,7 +131,7 @@ static inline const char *lw_refusal_name(uint32_t number)
 
 #define LW_HOST_WORDS 67
 #define LW_CARD_WORDS 85
-#define LW_ANSWER_WORDS 7
+#define LW_ANSWER_WORDS 8
 #define LW_DESCRIPTION_WORDS 167
 
 /* The charging host's end of a pair. Open it before anything else. */
@@ -147,7 +147,7 @@ typedef struct lw_card {
 /* What a received frame is answered. */
 enum lw_kind {
     LW_ACCEPTED = 1,    /* all its messages took effect */
-    LW_AGAIN = 2,       /* it took effect before: only acknowledge it */
+    LW_AGAIN = 2,       /* it took effect before or lies behind: only acknowledge it */
     LW_NO_MESSAGES = 3, /* it has none, so nothing changed */
     LW_REFUSED = 4      /* nothing changed */
 };
@@ -161,6 +161,7 @@ typedef struct lw_answer {
     uint64_t completed; /* accepted: transactions that this frame completed */
     uint64_t refusal;   /* refused: one of enum lw_refusal */
     uint64_t place;     /* refused: index of the message, from 0; 0 for refusals 1 to 6 */
+    uint64_t run;       /* accepted, again: frame numbers acknowledged from number on, 1 to 255 */
 } lw_answer;
 
 /* A transaction of which some messages came and others are to come. */
@@ -248,10 +249,13 @@ static inline uint32_t lw_host_receive(lw_host *host, const uint8_t *frame, size
 }
 
 /* Writes the acknowledgement frame that an answer calls for, to be sent to the
- * peer. Returns 1 if it is due (accepted, again) and 0 if not; then nothing is
- * written. The number is that of the host's own next message frame, which is not
- * used up: 0 for a host that sends no messages. The host does not change, so that
- * the same answer may be acknowledged more than once. */
+ * peer: it covers the answer's run, all numbers from the frame's on that the host
+ * had accepted or had behind it, after this frame took effect. Returns 1 if it is
+ * due (accepted, again) and 0 if not; then nothing is written. The number is that
+ * of the host's own next message frame, which is not used up: 0 for a host that
+ * sends no messages. The host does not change, so that the same answer may be
+ * acknowledged more than once. Any words may be lent as an answer: of its number
+ * the low 16 bits count, of its run the low 8, and where these are 0 nothing is due. */
 static inline uint32_t lw_host_acknowledge(const lw_host *host, const lw_answer *answer,
                                            uint16_t number,
                                            uint8_t acknowledgement[LW_ACKNOWLEDGEMENT])
