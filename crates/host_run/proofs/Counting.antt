@@ -1,6 +1,6 @@
 -- What code counts is the run that the rules name, for any pair. Assumes nothing but that the marks are a word.
 use mathlib.Core.Path.{_≡_, sym, _∙_}
-use Prim.Native.Nat.{ℕ, _/_, _^_, _≤_, _<_, min}
+use Prim.Native.Nat.{ℕ, _/_, _^_, _≤_, _<_}
 use native.Mathlib.Omega.{arith}
 use borrow.Author.Tests.{le-leb, lt-leb}
 use Rattle.seq.specs.Ring.{distance, frameSpace}
