@@ -210,42 +210,45 @@ not-takesForOld d =
     let z : _≡_ {A = ℕ} 2 1 = ap (kindAt 1) (applied _ d (replicate 6 0) swapped refl .answersMatch) in
     omega arith
 
--- Frame 1 has a run of its own alone; frame 0 then fills the hole, and its run has both.
 runIn : Expected → ℕ
 runIn (expectAccepted c s run) = run
 runIn (expectAgain c run) = run
 runIn expectNoEffect = 0
 
--- What a host reports for its run is the book's.
-runs-seen : (r : Receiving) → Demand3For (withHost r) → passes (withHost r) (replicate 6 0) swapped ≡ true
-    → map runIn (map seenAs (runs (withHost r) (replicate 6 0) swapped .system .answers)) ≡ 1 ∷ 2 ∷ []
-unfolding computing swapped runIn
-runs-seen r d p = ap (map runIn) (applied _ d (replicate 6 0) swapped p .answersMatch)
+-- One frame arrives: its run is its own number. Before it takes effect it is not in its own run; after that it is
+-- behind.
+arrivedOne : List Event
+arrivedOne = opens 0 0 0 ∷ adds 0 0 [] ∷ seals ∷ shows 0 ∷ receives 0 ∷ []
 
+own-run : (r : Receiving) → Demand3For (withHost r)
+    → map runIn (map seenAs (runs (withHost r) (replicate 4 0) arrivedOne .system .answers)) ≡ 1 ∷ []
+unfolding computing arrivedOne runIn
+own-run r d = ap (map runIn) (applied _ d (replicate 4 0) arrivedOne refl .answersMatch)
+
+not-oneTooMany : Demand3For (withHost oneTooMany) → ⊥
+unfolding computing arrivedOne judgesRun withRun runIn
+not-oneTooMany d =
+    let z : _≡_ {A = ℕ} 2 1 = ap (λ xs. getD xs 0 0) (own-run oneTooMany d) in
+    omega arith
+
+not-beforeEffect : Demand3For (withHost beforeEffect) → ⊥
+unfolding computing arrivedOne judgesRun withRun runIn
+not-beforeEffect d =
+    let z : _≡_ {A = ℕ} 0 1 = ap (λ xs. getD xs 0 0) (own-run beforeEffect d) in
+    omega arith
+
+not-withoutBehind : Demand3For (withHost withoutBehind) → ⊥
+unfolding computing arrivedOne judgesRun withRun marksFrom runIn
+not-withoutBehind d =
+    let z : _≡_ {A = ℕ} 0 1 = ap (λ xs. getD xs 0 0) (own-run withoutBehind d) in
+    omega arith
+
+-- Frame 0 fills the hole before frame 1, and its run has both.
 not-itsOwnOnly : Demand3For (withHost itsOwnOnly) → ⊥
 unfolding computing swapped judgesRun withRun runIn
 not-itsOwnOnly d =
-    let z : _≡_ {A = ℕ} 1 2 = ap (λ xs. getD xs 1 0) (runs-seen itsOwnOnly d refl) in
-    omega arith
-
-not-oneTooMany : Demand3For (withHost oneTooMany) → ⊥
-unfolding computing swapped judgesRun withRun runIn
-not-oneTooMany d =
-    let z : _≡_ {A = ℕ} 2 1 = ap (λ xs. getD xs 0 0) (runs-seen oneTooMany d refl) in
-    omega arith
-
--- Before it takes effect an accepted frame is not in its own run.
-not-beforeEffect : Demand3For (withHost beforeEffect) → ⊥
-unfolding computing swapped judgesRun withRun runIn
-not-beforeEffect d =
-    let z : _≡_ {A = ℕ} 0 1 = ap (λ xs. getD xs 0 0) (runs-seen beforeEffect d refl) in
-    omega arith
-
--- Frame 0 is behind once it took effect: so is frame 1.
-not-withoutBehind : Demand3For (withHost withoutBehind) → ⊥
-unfolding computing swapped judgesRun withRun marksFrom runIn
-not-withoutBehind d =
-    let z : _≡_ {A = ℕ} 0 2 = ap (λ xs. getD xs 1 0) (runs-seen withoutBehind d refl) in
+    let z : _≡_ {A = ℕ} 1 2 =
+    ap (λ xs. runIn (getD xs 1 expectNoEffect)) (applied _ d (replicate 6 0) swapped refl .answersMatch) in
     omega arith
 
 -- Of two messages one arrives: no completion yet.
