@@ -27,6 +27,9 @@ element-copy-out-kind c = search needs
 element-copy-out-answered : tie.Need-element-copy-out-answered
 element-copy-out-answered c = search needs
 
+element-copy-out-run : tie.Need-element-copy-out-run
+element-copy-out-run c = search needs
+
 acknowledge-words-requires : tie.Need-acknowledge-words-requires
 acknowledge-words-requires c κs = search needs
 
@@ -46,6 +49,7 @@ lw-raw-host-acknowledge-spec =
     (tie.spec
     element-copy-out-kind
     element-copy-out-answered
+    element-copy-out-run
     acknowledge-words-requires
     returns
     returns-2)
