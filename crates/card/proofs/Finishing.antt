@@ -1,5 +1,5 @@
--- The card's transactions against counts that never come round: the lowest unfinished one, how many are opened, and tests that
--- say of each count whether that transaction is finished.
+-- The card's transactions against counts that never come round: the lowest unfinished one, how many are opened, and
+-- tests that say of each count whether that transaction is finished.
 -- Assumes nothing.
 use Prim.Native.Nat.{ℕ, _+_, _-_, _%_, _≤_, _<_}
 use native.Mathlib.Nat.{mod-add-mod, add-zero, mod-eq-of-lt}
@@ -35,8 +35,8 @@ pub not-delivered : (e : Sending) (base next : ℕ) → e .added < needed (e .co
 unfolding delivered
 not-delivered e base next h = rw (ne-eqb (e .added) (needed (e .count)) (omega arith))
 
--- With all messages added, exactly when the frame of the latest is released. Before the step `was` frames were released, and not
--- that one; after it `released` are, and the frame being built is the one of count `sealed`.
+-- With all messages added, exactly when the frame of the latest is released. Before the step `was` frames were
+-- released, and not that one; after it `released` are, and the frame being built is the one of count `sealed`.
 pub delivered-is : (e : Sending) (base next was released sealed frame : ℕ) → e .added ≡ needed (e .count)
     → e .frame .0 ≡ frame % frameSpace → base ≡ released % frameSpace → next ≡ sealed % frameSpace
     → was ≤ frame → frame ≤ sealed → was ≤ released → released ≤ sealed → sealed ≤ was + 64
@@ -58,7 +58,8 @@ delivered-is e base next was released sealed frame all l b n h₁ h₂ h₃ h₄
         distance-behind frameSpace (lit< tt) released frame q (omega arith) in
         rw (lt-ltb frame released q, room) (lt-ltb (sealed - released) away (omega arith))
     go (no q) =
-        let d : away ≡ frame - released = distance-ahead frameSpace (lit< tt) released frame (omega arith) (omega arith) in
+        let d : away ≡ frame - released =
+        distance-ahead frameSpace (lit< tt) released frame (omega arith) (omega arith) in
         rw (le-ltb frame released (omega arith), room) (le-ltb (sealed - released) away (omega arith))
 
 -- ---- counts
@@ -70,7 +71,8 @@ module _ (s : Sendings) (low total : ℕ) (within : low ≤ total) (few : total 
 
   -- a transaction that takes a message is one of those opened from the lowest unfinished one on
   pub taking-is : (t : ℕ) → t < transSpace → inRange transSpace (s .lowest .0) (opened s) t ≡ true
-      → (low + distance transSpace (s .lowest .0) t < total) × ((low + distance transSpace (s .lowest .0) t) % transSpace ≡ t)
+      → (low + distance transSpace (s .lowest .0) t < total)
+      × ((low + distance transSpace (s .lowest .0) t) % transSpace ≡ t)
   unfolding advance
   taking-is t h e = (
     omega (arith, opened-is, ltb-true away (opened s) e),

@@ -1,6 +1,6 @@
--- Opening hands back a reachable card, and each step keeps a card reachable, whatever it is called with. In a reachable card the
--- lowest frame not released is the oldest held one, and a part is handed out exactly where the number of the refusal is 0.
--- Assumes nothing.
+-- Opening hands back a reachable card, and each step keeps a card reachable, whatever it is called with. In a reachable
+-- card the lowest frame not released is the oldest held one, and a part is handed out exactly where the number of the
+-- refusal is 0. Assumes nothing.
 use Prim.Native.Nat.{ℕ, zero, suc, _+_, _-_, _*_, _/_, _%_, _^_, _≤_, _<_}
 use native.Mathlib.Nat.{add-zero}
 use native.Mathlib.Decide.{decLt, ℕ-discrete}
@@ -82,7 +82,16 @@ use Rattle.card.specs.Card.{
   chooseRefusal,
   chooseNext,
 }
-use Rattle.card.proofs.Slots.{limit-least, limit-most, buffer-long, Addable, addable, room-in, frame-in, slot-long}
+use Rattle.card.proofs.Slots.{
+  limit-least,
+  limit-most,
+  buffer-long,
+  Addable,
+  addable,
+  room-in,
+  frame-in,
+  slot-long,
+}
 use Rattle.card.specs.Reachable.{InOrder, Counted, Orderly, Building, Reachable}
 
 -- ---- the window
@@ -374,7 +383,8 @@ opened-reachable own peer limit slots h k = go (eqb own 0) refl (eqb peer 0) ref
 
 -- ---- the steps
 
-pub opening-reachable : (c : Card) (count address value : ℕ) → Reachable c → count < 2 ^ 16 → address < 2 ^ 32 → value < 2 ^ 32
+pub opening-reachable : (c : Card) (count address value : ℕ) → Reachable c → count < 2 ^ 16 → address < 2 ^ 32
+    → value < 2 ^ 32
     → Reachable (openTransaction c count address value .card)
 unfolding openTransaction openingRefusal
 opening-reachable c count address value r k t v = go (ltb (opened (c .sendings)) 32) refl
@@ -388,7 +398,8 @@ opening-reachable c count address value r k t v = go (ltb (opened (c .sendings))
           opening = r .opening;
           building = still (r .building);
           window = r .window;
-          sendings = opening-keeps (c .sendings) count address value (r .sendings) (ltb-true (opened (c .sendings)) 32 z) k t v;
+          sendings = opening-keeps (c .sendings) count address value (r .sendings)
+              (ltb-true (opened (c .sendings)) 32 z) k t v;
         })
       where
         still : ((c .used ≡ 0) × (c .last ≡ 0)) ⊎ Building c
@@ -482,7 +493,8 @@ reading-reachable c f r = go (eqb (refusalOf (readFrame (addressed (c .own) (c .
           slot-free = omega (arith, b .slot-free, fewer (c .window) (c .limit) (ackStart f) (ackCount f) (r .window));
         })
 
-    go : (b : Bool) → eqb (refusalOf (readFrame (addressed (c .own) (c .peer) f) f)) 0 ≡ b → Reachable (readAcks c f .card)
+    go : (b : Bool) → eqb (refusalOf (readFrame (addressed (c .own) (c .peer) f) f)) 0 ≡ b
+        → Reachable (readAcks c f .card)
     go false z = rw z r
     go true z =
         rw z (record {
@@ -511,7 +523,8 @@ module _ (c : Card) (slots : List ℕ) (r : Reachable c) (ok : fits (c .limit) s
       let least : 34 ≤ size = rw e (r .window .sizes-least i h) in
       let most : size ≤ c .limit = r .window .sizes-most (n % 64) in
       let long = slot-long c slots (buffer-long (c .limit) slots ok) n in
-      rw (frame-in c slots n size ok refl most) (omega (arith, length-take-le size (slotOf c slots n) (omega (arith, long))))
+      rw (frame-in c slots n size ok refl most)
+      (omega (arith, length-take-le size (slotOf c slots n) (omega (arith, long))))
     where
       size : ℕ
       size = getD (c .window .sizes) (n % 64) 0
@@ -519,7 +532,8 @@ module _ (c : Card) (slots : List ℕ) (r : Reachable c) (ok : fits (c .limit) s
   held-long : (n : ℕ) → n < frameSpace → held (c .window) n ≡ true → 34 ≤ length (frameIn c slots n)
   unfolding distance
   held-long n h e =
-      frame-long n (distance frameSpace (c .window .base .0) n) (held-near (c .window) n e) (omega (arith, r .window .base-fits))
+      frame-long n (distance frameSpace (c .window .base .0) n) (held-near (c .window) n e)
+      (omega (arith, r .window .base-fits))
 
   oldest-long : anyHeld (c .window) ≡ true → 34 ≤ length (frameIn c slots (oldestHeld (c .window)))
   oldest-long e =
@@ -527,7 +541,8 @@ module _ (c : Card) (slots : List ℕ) (r : Reachable c) (ok : fits (c .limit) s
       ltb-true (beforeHeld (c .window)) (unreleased (c .window)) e in
       frame-long (oldestHeld (c .window)) 0 (omega arith) (rw (oldest-is-lowest c r, add-zero (c .window .base .0)))
 
--- The number of a showing's refusal is 0 exactly where the part that it hands out is not empty, and the same of a choice.
+-- The number of a showing's refusal is 0 exactly where the part that it hands out is not empty, and the same of a
+-- choice.
 pub show-agrees : (c : Card) (slots : List ℕ) (n : ℕ) → Reachable c → n < frameSpace
     → eqb (showRefusal c slots n) 0 ≡ ltb 0 (length (showFrame c slots n))
 unfolding showRefusal showFrame
@@ -537,7 +552,8 @@ show-agrees c slots n r h = go (fits (c .limit) slots) refl (held (c .window) n)
         → eqb (showRefusal c slots n) 0 ≡ ltb 0 (length (showFrame c slots n))
     go false x b y = rw x
     go true x false y = rw (x, y)
-    go true x true y = rw (x, y) (sym (lt-ltb 0 (length (frameIn c slots n)) (omega (arith, held-long c slots r x n h y))))
+    go true x true y =
+        rw (x, y) (sym (lt-ltb 0 (length (frameIn c slots n)) (omega (arith, held-long c slots r x n h y))))
 
 pub choose-agrees : (c : Card) (slots ack : List ℕ) → Reachable c
     → eqb (chooseRefusal c slots ack) 0 ≡ ltb 0 (length (chooseNext c slots ack))

@@ -1,5 +1,5 @@
--- The slot buffer: adding a message writes the slot of the frame being built and no other, and that slot then starts with the
--- frame of the messages so far.
+-- The slot buffer: adding a message writes the slot of the frame being built and no other, and that slot then starts
+-- with the frame of the messages so far.
 -- Assumes nothing.
 use Prim.Native.Nat.{ℕ, suc, _+_, _-_, _*_, _%_, _≤_, _<_}
 use native.Mathlib.Nat.{mul-le-mul-right, mod-lt}
@@ -12,7 +12,18 @@ use mathlib.Core.List.{List, [], _∷_, _++_, append-assoc}
 use borrow.Author.Tests.{ltb-false, le-leb, leb-true, eqb-true, eq-eqb, ne-eqb}
 use lib.Dec.{eqb, leb, ltb, lit<}
 use lib.ListN.{length, take, drop, getD, set, length-set, length-drop}
-use lib.Seq.{sets, sets-eq, length-sets, length-take-le, take-at, drop-at, take-take, take-set-le, drop-set-lt, drop-set-add}
+use lib.Seq.{
+  sets,
+  sets-eq,
+  length-sets,
+  length-take-le,
+  take-at,
+  drop-at,
+  take-take,
+  take-set-le,
+  drop-set-lt,
+  drop-set-add,
+}
 use Rattle.wire.specs.Format.{Message, nextHeader, frameMost}
 use Rattle.wire.specs.Writing.{
   frameHead,
@@ -88,7 +99,8 @@ pub record Addable (c : Card) (slots : List ℕ) (t : ℕ) (bytes : List ℕ) : 
   pub slot-free : leb 64 (unreleased (c .window)) ≡ false
   pub in-slot : ltb (c .limit) (headerOffset c + 24 + length bytes) ≡ false
 
-pub addable : (c : Card) (slots : List ℕ) (t : ℕ) (bytes : List ℕ) → addRefusal c slots t bytes ≡ 0 → Addable c slots t bytes
+pub addable : (c : Card) (slots : List ℕ) (t : ℕ) (bytes : List ℕ) → addRefusal c slots t bytes ≡ 0
+    → Addable c slots t bytes
 unfolding addRefusal
 addable c slots t bytes e =
     let k = go (fits (c .limit) slots) (takes (c .sendings) t) _ (leb 64 (unreleased (c .window))) _ e in
@@ -118,7 +130,8 @@ before-store s at n i v h =
     ∙ ap (take n) (drop-set-add at s (i - at) v)
     ∙ take-set-le n (drop at s) (i - at) v (omega arith)
 
-before-stores : (s : List ℕ) (at n i : ℕ) (vs : List ℕ) → at + n ≤ i → take n (drop at (sets s i vs)) ≡ take n (drop at s)
+before-stores : (s : List ℕ) (at n i : ℕ) (vs : List ℕ) → at + n ≤ i
+    → take n (drop at (sets s i vs)) ≡ take n (drop at s)
 before-stores s at n i [] h = refl
 before-stores s at n i (v ∷ vs) h =
     before-stores (set s i v) at n (suc i) vs (omega arith) ∙ before-store s at n i v h
@@ -131,7 +144,8 @@ after-stores s at i (v ∷ vs) h =
 -- ---- the slots after a message is written
 
 -- a slot is written in place
-pub length-first : (slot : List ℕ) (to from num : ℕ) (m : Message) → length (firstMessage slot to from num m) ≡ length slot
+pub length-first : (slot : List ℕ) (to from num : ℕ) (m : Message)
+    → length (firstMessage slot to from num m) ≡ length slot
 unfolding firstMessage
 length-first slot to from num m = go (roomFor slot (endOf 10 m))
   where
@@ -179,7 +193,8 @@ module _ (c : Card) (slots : List ℕ) (m : Message) where
   unfolding builtSlot
   length-slot slot = go (eqb (c .used) 0)
     where
-      go : (b : Bool) → length (cond b (firstMessage slot (c .peer) (c .own) num m) (nextMessage slot (c .used) (c .last) m))
+      go : (b : Bool)
+          → length (cond b (firstMessage slot (c .peer) (c .own) num m) (nextMessage slot (c .used) (c .last) m))
           ≡ length slot
       go true = length-first slot (c .peer) (c .own) num m
       go false = length-next slot (c .used) (c .last) m
@@ -253,7 +268,10 @@ module _ (c : Card) (slots : List ℕ) (m : Message) (ok : fits (c .limit) slots
   unfolding roomFor
   has-room size h =
       let l : length slot ≡ c .limit = slot-long c slots (buffer-long (c .limit) slots ok) at in
-      rw (le-leb size (length slot) (omega arith), le-leb size frameMost (omega (arith, limit-most (c .limit) slots ok)))
+      rw (
+        le-leb size (length slot) (omega arith),
+        le-leb size frameMost (omega (arith, limit-most (c .limit) slots ok)),
+      )
 
   after : slotOf c (builtSlots c slots m) at ≡ builtSlot c slot m
   after = own-slot c slots m (buffer-long (c .limit) slots ok)
@@ -282,7 +300,8 @@ module _ (c : Card) (slots : List ℕ) (m : Message) (ok : fits (c .limit) slots
         let u : c .used ≡ length so-far = built .0 in
         let l : length so-far ≡ 10 + length (laid 10 (x ∷ xs)) = length-frame (c .peer) (c .own) at (x ∷ xs) in
         let some : eqb (c .used) 0 ≡ false = ne-eqb (c .used) 0 (λ e. omega arith) in
-        let r : roomFor slot (endOf (nextHeader (length so-far)) m) ≡ true = rw u at (has-room (endOf (headerOffset c) m) room) in
+        let r : roomFor slot (endOf (nextHeader (length so-far)) m) ≡ true =
+        rw u at (has-room (endOf (headerOffset c) m) room) in
         rw (after, some, u, built .1) (next-built slot (c .peer) (c .own) at x xs m (built .2) r)
 
   -- So the frame of the messages so far and this one is being built.
@@ -303,7 +322,8 @@ module _ (c : Card) (slots : List ℕ) (m : Message) (ok : fits (c .limit) slots
 
 -- ---- a sealed frame handed out
 
-pub frame-in : (c : Card) (slots : List ℕ) (n size : ℕ) → fits (c .limit) slots ≡ true → getD (c .window .sizes) (n % 64) 0 ≡ size
+pub frame-in : (c : Card) (slots : List ℕ) (n size : ℕ) → fits (c .limit) slots ≡ true
+    → getD (c .window .sizes) (n % 64) 0 ≡ size
     → size ≤ c .limit → frameIn c slots n ≡ take size (slotOf c slots n)
 unfolding frameIn
 frame-in c slots n size ok is h =

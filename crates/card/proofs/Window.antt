@@ -1,5 +1,5 @@
--- The window of sealed frames against counts that never come round: so many frames are released, so many are sealed, and a test
--- says of each count whether that frame is acknowledged.
+-- The window of sealed frames against counts that never come round: so many frames are released, so many are sealed,
+-- and a test says of each count whether that frame is acknowledged.
 -- Assumes nothing.
 use Prim.Native.Nat.{ℕ, _+_, _-_, _%_, _≤_, _<_}
 use native.Mathlib.Nat.{mod-add-mod, add-zero, mod-eq-of-lt}
@@ -43,7 +43,8 @@ pos = lit< tt
 -- Where the lowest frame not released is not acknowledged, it is the oldest held one.
 pub none-before-held : (w : SendWindow) → (0 < unreleased w → mark (w .acked) 0 ≡ false) → beforeHeld w ≡ 0
 unfolding beforeHeld trailingOnes
-none-before-held w clear = leading-is (mark (w .acked)) (unreleased w) 0 (omega arith) (λ i h. absurd (omega arith)) clear
+none-before-held w clear =
+    leading-is (mark (w .acked)) (unreleased w) 0 (omega arith) (λ i h. absurd (omega arith)) clear
 
 pub oldest-base : (w : SendWindow) → w .base .0 < frameSpace → beforeHeld w ≡ 0 → oldestHeld w ≡ w .base .0
 unfolding advance
@@ -93,7 +94,7 @@ module _ (w : SendWindow) (released sealed : ℕ) (within : released ≤ sealed)
       back : advance frameSpace (w .base .0) away ≡ num
       back = advance-distance frameSpace pos (w .base .0) num fits h
 
-  -- ---- an acknowledgement of `count` numbers, from that of the frame c on, which is sealed and not more than `late` released
+  -- ---- an acknowledgement of `count` numbers, from that of frame c on: it is sealed, not more than `late` released
 
   module _ (c count : ℕ) (in-time : released ≤ c + late) (near : c < released + 64) (most : count ≤ 255)
       (p q : ℕ → Bool) (marks-are : (i : ℕ) → mark (w .acked) i ≡ p (released + i))
@@ -131,7 +132,8 @@ module _ (w : SendWindow) (released sealed : ℕ) (within : released ≤ sealed)
       where
         go : Dec (released + i < sealed) → ltb i (unreleased w) ≡ ltb (released + i) sealed
         go (yes h) = rw (lt-ltb (released + i) sealed h) (lt-ltb i (unreleased w) (omega (arith, unreleased-is)))
-        go (no h) = rw (le-ltb (released + i) sealed (omega arith)) (le-ltb i (unreleased w) (omega (arith, unreleased-is)))
+        go (no h) =
+            rw (le-ltb (released + i) sealed (omega arith)) (le-ltb i (unreleased w) (omega (arith, unreleased-is)))
 
     abbrev marked : ℕ
     marked = marksOf 64 (acknowledgedBy w (c % frameSpace) count)
@@ -160,7 +162,8 @@ module _ (w : SendWindow) (released sealed : ℕ) (within : released ≤ sealed)
             mark-marksOf-beyond 64 (acknowledgedBy w (c % frameSpace) count) i (omega arith)
             ∙ sym (q-beyond (released + i) (omega arith))
 
-    -- the frames released then are those before the first that is not acknowledged, and the marks stand for those from there on
+    -- the frames released then are those before the first that is not acknowledged, and the marks stand for those from
+    -- there on
     pub released-moves : leading q sealed ≡ released + trailingOnes 64 marked
     released-moves = window-moves q sealed released 64 marked within few below marked-is q-beyond
 
@@ -185,7 +188,8 @@ module _ (w : SendWindow) (start count : ℕ) (none : unreleased w ≡ 0) where
   no-marks : marksOf 64 (acknowledgedBy w start count) ≡ 0
   unfolding acknowledgedBy marksOf
   no-marks =
-      sym (marks-cut 64 0 (acknowledgedBy w start count) (omega arith) (λ i h. rw (le-ltb i (unreleased w) (omega arith))))
+      sym (marks-cut 64 0 (acknowledgedBy w start count) (omega arith)
+      (λ i h. rw (le-ltb i (unreleased w) (omega arith))))
 
   pub nothing-acknowledged : acknowledging w start count .acked ≡ 0
   unfolding acknowledging releasing

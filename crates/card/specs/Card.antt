@@ -1,5 +1,5 @@
--- The card: opening it, and its six steps. Each step's refusals stand in one chain, the first that holds is given, and 0 is none.
--- A slot buffer is a list of bytes: 64 slots of L bytes, where L is the card's frame limit.
+-- The card: opening it, and its six steps. Each step's refusals stand in one chain, the first that holds is given, and
+-- 0 is none. A slot buffer is a list of bytes: 64 slots of L bytes, where L is the card's frame limit.
 use Prim.Native.Nat.{ℕ, _+_, _*_, _%_}
 use mathlib.Core.Bool.{Bool, cond, not, _&&_, _||_}
 use mathlib.Core.List.{List, []}
@@ -100,9 +100,17 @@ addRefusal c slots t bytes =
 unfoldable pub messageOf : Card → ℕ → ℕ → List ℕ → Message
 messageOf c t at bytes =
     let e = sendingAt (c .sendings) t in
-    record { trans = t; completionAddress = e .address; completionValue = e .value; count = e .count; dataAddress = at; bytes = bytes }
+    record {
+      trans = t;
+      completionAddress = e .address;
+      completionValue = e .value;
+      count = e .count;
+      dataAddress = at;
+      bytes = bytes;
+    }
 
--- The slot with the message written: the first one brings the frame header, a later one the trailing byte before it and the gap.
+-- The slot with the message written: the first one brings the frame header, a later one the trailing byte before it and
+-- the gap.
 unfoldable pub builtSlot : Card → List ℕ → Message → List ℕ
 builtSlot c slot m =
     cond (eqb (c .used) 0)

@@ -1,5 +1,5 @@
--- What holds of every card that opening and the six steps hand back. Nothing of this needs to be believed: proofs/Reachable.antt
--- shows it, for any calls, any bytes and any slot buffer lent to a step.
+-- What holds of every card that opening and the six steps hand back. Nothing of this needs to be believed:
+-- proofs/Reachable.antt shows it, for any calls, any bytes and any slot buffer lent to a step.
 use Prim.Native.Nat.{ℕ, _+_, _%_, _^_, _≤_, _<_}
 use mathlib.Core.Path.{_≡_}
 use mathlib.Core.Logic.{_≢_, _⊎_}

@@ -1,5 +1,6 @@
 -- The card's transactions: opening one, adding a message to one, and which of them are finished.
--- They have a window of 32 from the lowest unfinished one on; each has the table's entry that its number modulo 32 gives.
+-- They have a window of 32 from the lowest unfinished one on; each has the table's entry that its number modulo 32
+-- gives.
 use Prim.Native.Nat.{ℕ, suc, _+_, _%_}
 use mathlib.Core.Bool.{Bool, cond, _&&_, _||_}
 use lib.Dec.{eqb, ltb}
@@ -44,8 +45,8 @@ opening s count address value = record {
 
 -- ---- adding
 
--- Whether a message of transaction t may be added (23 where not): it is opened and takes more messages. One below the window is
--- finished, so that its messages are all added; one above it was never opened.
+-- Whether a message of transaction t may be added (23 where not): it is opened and takes more messages. One below the
+-- window is finished, so that its messages are all added; one above it was never opened.
 unfoldable pub takes : Sendings → ℕ → Bool
 takes s t =
     inRange transSpace (s .lowest .0) (opened s) t
@@ -74,16 +75,16 @@ adding s t frame =
 
 -- ---- finishing
 
--- All its messages are added, and the frame with the latest of them is released: it is neither one of those from `base` on that
--- are sealed and not released nor the one being built, which will be `next`.
+-- All its messages are added, and the frame with the latest of them is released: it is neither one of those from `base`
+-- on that are sealed and not released nor the one being built, which will be `next`.
 unfoldable pub delivered : Sending → ℕ → ℕ → Bool
 delivered e base next =
     eqb (e .added) (needed (e .count))
     && ltb (distance frameSpace base next) (distance frameSpace base (e .frame .0))
 
--- The i-th transaction from the lowest unfinished one on is finished (a term of the rules): it is opened, and it was finished
--- before or is delivered now. What was finished stays so: a frame number that comes round decides nothing anew, since `delivered`
--- is asked in the same step that releases the frame.
+-- The i-th transaction from the lowest unfinished one on is finished (a term of the rules): it is opened, and it was
+-- finished before or is delivered now. What was finished stays so: a frame number that comes round decides nothing
+-- anew, since `delivered` is asked in the same step that releases the frame.
 unfoldable pub finishedBy : Sendings → ℕ → ℕ → ℕ → Bool
 finishedBy s base next i =
     ltb i (opened s) && (mark (s .finished) i || delivered (sendingAt s (s .lowest .0 + i)) base next)

@@ -1,6 +1,6 @@
--- The card's sealed frames: which of them are released, acknowledged and held, and what an arriving acknowledgement changes.
--- Frames are sealed in the order of their numbers and released in the same order, so that those sealed and not released are
--- consecutive: from `base` up to but not including `next`.
+-- The card's sealed frames: which of them are released, acknowledged and held, and what an arriving acknowledgement
+-- changes. Frames are sealed in the order of their numbers and released in the same order, so that those sealed and not
+-- released are consecutive: from `base` up to but not including `next`.
 use Prim.Native.Nat.{ℕ, _%_}
 use mathlib.Core.Bool.{Bool, not, _&&_, _||_}
 use lib.Dec.{ltb}
@@ -23,7 +23,8 @@ unfoldable pub held : SendWindow → ℕ → Bool
 held w n =
     inRange frameSpace (w .base .0) (unreleased w) n && not (mark (w .acked) (distance frameSpace (w .base .0) n))
 
--- How many sealed frames, from the lowest not released on, are acknowledged before the first that is not: the oldest held one.
+-- How many sealed frames, from the lowest not released on, are acknowledged before the first that is not: the oldest
+-- held one.
 unfoldable pub beforeHeld : SendWindow → ℕ
 beforeHeld w = trailingOnes (unreleased w) (w .acked)
 
@@ -46,8 +47,8 @@ sealing w size = record {
   sizes = set (w .sizes) (w .next .0 % 64) size;
 }
 
--- The i-th frame from the lowest not released on is acknowledged: it is sealed, and it was acknowledged before or is one of the
--- `count` numbers from `start` on. Other marks and other numbers of the range count for nothing.
+-- The i-th frame from the lowest not released on is acknowledged: it is sealed, and it was acknowledged before or is
+-- one of the `count` numbers from `start` on. Other marks and other numbers of the range count for nothing.
 unfoldable pub acknowledgedBy : SendWindow → ℕ → ℕ → ℕ → Bool
 acknowledgedBy w start count i =
     ltb i (unreleased w)

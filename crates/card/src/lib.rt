@@ -1,6 +1,6 @@
-// The card's end of a pair as a value: its sealed frames, its transactions, and what its steps answer. Definitions only:
-// specs/Card.antt says what opening and the six steps make of a card, and specs/Reachable.antt what holds of every card that they
-// hand back. The crates card_* do the steps on a card kept in lent words.
+// The card's end of a pair as a value: its sealed frames, its transactions, and what its steps answer. Definitions
+// only: specs/Card.antt says what opening and the six steps make of a card, and specs/Reachable.antt what holds of
+// every card that they hand back. The crates card_* do the steps on a card kept in lent words.
 use seq::FrameNo;
 use seq::TransNo;
 ghost use mathlib.Core.Path.{_≡_};
@@ -9,8 +9,8 @@ ghost use Prim.Native.Nat.{_*_, _%_, _<_};
 ghost use Rattle.wire.specs.Format.{needed};
 ghost use Rattle.card.specs.Card.{fits};
 
-// The sealed frames. Bit i of acked stands for the frame base + i and is set where that is acknowledged. The frame n is in slot n
-// modulo 64 and has the length that sizes gives there.
+// The sealed frames. Bit i of acked stands for the frame base + i and is set where that is acknowledged. The frame n is
+// in slot n modulo 64 and has the length that sizes gives there.
 pub struct SendWindow {
     pub acked: u64,
     pub next: FrameNo,
@@ -18,8 +18,8 @@ pub struct SendWindow {
     pub sizes: [u16; 64],
 }
 
-// A transaction as the card sends it: its terms, how many of its messages are added, and the number of the frame that the latest
-// of them went into.
+// A transaction as the card sends it: its terms, how many of its messages are added, and the number of the frame that
+// the latest of them went into.
 pub struct Sending {
     pub address: u32,
     pub value: u32,
@@ -28,8 +28,8 @@ pub struct Sending {
     pub frame: FrameNo,
 }
 
-// The transactions. next is the number that the next opening gives, lowest the lowest unfinished one. Bit i of finished stands for
-// the transaction lowest + i.
+// The transactions. next is the number that the next opening gives, lowest the lowest unfinished one. Bit i of finished
+// stands for the transaction lowest + i.
 pub struct Sendings {
     pub next: TransNo,
     pub lowest: TransNo,

@@ -20,8 +20,10 @@ use Rattle.card_words.specs.declared.Head.{Head}
 use Rattle.card_words.specs.Words.{cardOf, headOf, withHead}
 
 module _ (w : List ℕ) (h : Head) (head-is : h ≡ headOf (cardOf w)) where
-  pub released-now : (start count acked run moved finished gone past : ℕ) (base : FrameNo) (lowest : TransNo) (left : List ℕ)
-      → acked ≡ marksOf 64 (acknowledgedBy (cardOf w .window) start count) → run ≡ trailingOnes 64 acked → moved ≡ acked / 2 ^ run
+  pub released-now : (start count acked run moved finished gone past : ℕ) (base : FrameNo) (lowest : TransNo)
+      (left : List ℕ)
+      → acked ≡ marksOf 64 (acknowledgedBy (cardOf w .window) start count) → run ≡ trailingOnes 64 acked
+      → moved ≡ acked / 2 ^ run
       → base .0 ≡ advance frameSpace (h .base .0) run
       → finished ≡ marksOf 32 (finishedBy (cardOf w .sendings) (base .0) (h .next .0)) → gone ≡ trailingOnes 32 finished
       → past ≡ finished / 2 ^ gone → lowest .0 ≡ advance transSpace (h .lowest .0) gone

@@ -32,7 +32,8 @@ fn acknowledge(words: &mut [u64], start: FrameNo, count: u8)
 
 // Reads the acknowledgements of an arriving frame, and answers the refusal, 0 for none.
 pub fn read_acknowledgements(words: &mut [u64], f: &[u8]) -> u8
-    ensures { λ r. ⌜ r ≡ orNotCard (now (words .entry)) (readAcks (cardOf (now (words .entry))) (now (f .entry)) .refusal) ⌝ }
+    ensures { λ r.
+        ⌜ r ≡ orNotCard (now (words .entry)) (readAcks (cardOf (now (words .entry))) (now (f .entry)) .refusal) ⌝ }
     ensures { λ r. ⌜ Steps (now (words .entry)) (now (words .exit)) r
         (readAcks (cardOf (now (words .entry))) (now (f .entry)) .card) ⌝ }
 {

@@ -31,12 +31,14 @@ module _ (w : List ℕ) (h : Head) (head-is : h ≡ headOf (cardOf w)) where
       unfolding takes
       takes-none l = rw (← far, ← open-are, le-ltb away d l)
 
-      pub takes-some : away < d → (e : Sending) (most : ℕ) → e ≡ sendingAt (cardOf w .sendings) t → most ≡ needed (e .count)
+      pub takes-some : away < d → (e : Sending) (most : ℕ) → e ≡ sendingAt (cardOf w .sendings) t
+          → most ≡ needed (e .count)
           → ltb (e .added) most ≡ takes (cardOf w .sendings) t
       unfolding takes
       takes-some l e most e-is m-is = rw (← far, ← open-are, lt-ltb away d l, m-is, e-is)
 
-  pub bare-is : (t n : ℕ) (e : Sending) (b : Bool) → e ≡ sendingAt (cardOf w .sendings) t → b ≡ (eqb (e .count) 0 && ltb 0 n)
+  pub bare-is : (t n : ℕ) (e : Sending) (b : Bool) → e ≡ sendingAt (cardOf w .sendings) t
+      → b ≡ (eqb (e .count) 0 && ltb 0 n)
       → (eqb (sendingAt (cardOf w .sendings) t .count) 0 && ltb 0 n) ≡ b
   bare-is t n e b e-is is = sym (rw e-is at is)
 

@@ -21,7 +21,8 @@ use Rattle.card_words.specs.Words.{cardOf, headOf, withHead, withSending}
 -- ---- what the answers of a refused and an accepted adding are
 
 module _ (c : Card) (slots : List ℕ) (t at : ℕ) (bytes : List ℕ) (r : ℕ) (is : r ≡ addRefusal c slots t bytes) where
-  pub adding-refused : r ≢ 0 → addMessage c slots t at bytes ≡ record { step = record { card = c; refusal = r }; slots = slots }
+  pub adding-refused : r ≢ 0
+      → addMessage c slots t at bytes ≡ record { step = record { card = c; refusal = r }; slots = slots }
   unfolding addMessage
   adding-refused ne = rw (← is, ne-eqb r 0 ne)
 
@@ -39,10 +40,12 @@ module _ (w : List ℕ) (h : Head) (head-is : h ≡ headOf (cardOf w)) where
       → e .count < 65536 → e .added + 1 < 65536
   room-for-one t e ok is f = rw is (takes-room (cardOf w .sendings) t ok (rw is at f))
 
-  pub ends-within : (n start : ℕ) → start ≡ nextHeader (h .used) → headerOffset (cardOf w) + 24 + n ≤ 9000 → start + 24 + n ≤ 9000
+  pub ends-within : (n start : ℕ) → start ≡ nextHeader (h .used) → headerOffset (cardOf w) + 24 + n ≤ 9000
+      → start + 24 + n ≤ 9000
   ends-within n start is l = rw (is, head-is) l
 
-  pub counted : (t : ℕ) (bytes : List ℕ) → takes (cardOf w .sendings) t ≡ true → (mid left : List ℕ) (e : Sending) (start : ℕ)
+  pub counted : (t : ℕ) (bytes : List ℕ) → takes (cardOf w .sendings) t ≡ true
+      → (mid left : List ℕ) (e : Sending) (start : ℕ)
       → e ≡ sendingAt (cardOf w .sendings) t → start ≡ nextHeader (h .used)
       → cardOf mid ≡ withSending (cardOf w) t
       (record { address = e .address; value = e .value; count = e .count; added = e .added + 1; frame = h .next })

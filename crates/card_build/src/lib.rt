@@ -113,11 +113,12 @@ fn count_message(words: &mut [u64], t: TransNo, payload: &[u8])
 // Adds one message of transaction t, with data for an address, to the frame being built, and answers the refusal, 0 for
 // none.
 pub fn add_message(words: &mut [u64], slots: &mut [u8], t: TransNo, at: u32, payload: &[u8]) -> u8
-    ensures { λ r. ⌜ r ≡ orNotCard (now (words .entry))
-        (addMessage (cardOf (now (words .entry))) (now (slots .entry)) (t .0) at (now (payload .entry)) .step .refusal) ⌝ }
+    ensures { λ r. ⌜ r ≡ orNotCard (now (words .entry)) (addMessage
+        (cardOf (now (words .entry))) (now (slots .entry)) (t .0) at (now (payload .entry)) .step .refusal) ⌝ }
     ensures { λ r. ⌜ Steps (now (words .entry)) (now (words .exit)) r
         (addMessage (cardOf (now (words .entry))) (now (slots .entry)) (t .0) at (now (payload .entry)) .step .card) ⌝ }
-    ensures { λ _. ⌜ now (slots .exit) ≡ addedIn (now (words .entry)) (now (slots .entry)) (t .0) at (now (payload .entry)) ⌝ }
+    ensures { λ _.
+        ⌜ now (slots .exit) ≡ addedIn (now (words .entry)) (now (slots .entry)) (t .0) at (now (payload .entry)) ⌝ }
 {
     if words.len() != card_words::CARD_WORDS {
         return card_words::NOT_CARD;

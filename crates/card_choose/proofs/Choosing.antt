@@ -67,7 +67,8 @@ module _ (w slots ack : List ℕ) (r : ℕ) (is : r ≡ orNotCard w (chooseRefus
 pub chosen-is : (w slots ack : List ℕ)
     → partOf (chosenPart w slots ack .part) (cond (chosenPart w slots ack .lent) ack slots) ≡ chosenIn w slots ack
 unfolding chosenPart chosenIn chooseNext
-chosen-is w slots ack = go (eqb (length w) cardWords) refl (eqb (chooseRefusal (cardOf w) slots ack) 0) refl (isAck ack) refl
+chosen-is w slots ack =
+    go (eqb (length w) cardWords) refl (eqb (chooseRefusal (cardOf w) slots ack) 0) refl (isAck ack) refl
   where
     go : (a : Bool) → eqb (length w) cardWords ≡ a → (b : Bool) → eqb (chooseRefusal (cardOf w) slots ack) 0 ≡ b
         → (d : Bool) → isAck ack ≡ d

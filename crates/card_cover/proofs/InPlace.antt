@@ -50,13 +50,15 @@ module _ (base start count d : ℕ) (b : base < frameSpace) (s : start < frameSp
   pub covered-near : end ≤ 65536 → run ≡ marksOf 64 (coveredBy base start count)
   covered-near h =
       marks-are 64 run (coveredBy base start count) (between-lt 64 d end)
-      (λ i l. mark-between 64 d end i l ∙ sym (as-run i l ∙ rw (le-ltb (i + frameSpace) end (omega arith)) (or-false _)))
+      (λ i l. mark-between 64 d end i l
+      ∙ sym (as-run i l ∙ rw (le-ltb (i + frameSpace) end (omega arith)) (or-false _)))
 
   pub covered-round : 65536 < end → bitOr run (marksBelow 64 (end - 65536)) ≡ marksOf 64 (coveredBy base start count)
   covered-round h =
       marks-are 64 (bitOr run low) (coveredBy base start count)
       (or-lt 64 run low (between-lt 64 d end) (below-lt 64 (end - 65536)))
-      (λ i l. mark-or run low i ∙ rw (mark-between 64 d end i l, mark-below 64 (end - 65536) i l, round i) (sym (as-run i l)))
+      (λ i l. mark-or run low i
+      ∙ rw (mark-between 64 d end i l, mark-below 64 (end - 65536) i l, round i) (sym (as-run i l)))
     where
       low : ℕ
       low = marksBelow 64 (end - 65536)

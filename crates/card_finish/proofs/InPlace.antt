@@ -55,7 +55,8 @@ module _ (s : Sendings) (base next most : ℕ) (is : most ≡ cond (ltb (opened 
       go : Dec (opened s < 32) → word ≡ marksOf 32 (finishedBy s base next)
       go (yes l) =
           let e : most ≡ opened s = is ∙ rw (lt-ltb (opened s) 32 l) in
-          m .word-is ∙ marks-cut 32 i (finishedBy s base next) (m .within) (λ j k. rw (le-ltb j (opened s) (omega arith)))
+          m .word-is
+          ∙ marks-cut 32 i (finishedBy s base next) (m .within) (λ j k. rw (le-ltb j (opened s) (omega arith)))
       go (no l) =
           let e : most ≡ 32 = is ∙ rw (le-ltb (opened s) 32 (omega arith)) in
           all-marked 32 (finishedBy s base next) m (omega arith)

@@ -33,7 +33,8 @@ fn is_finished(
     next: FrameNo,
     i: u32,
 ) -> bool
-    ensures { λ r. ⌜ r ≡ finishedNow (cardOf (now (words .entry)) .sendings) finished (lowest .0) (base .0) (next .0) i ⌝ }
+    ensures { λ r.
+        ⌜ r ≡ finishedNow (cardOf (now (words .entry)) .sendings) finished (lowest .0) (base .0) (next .0) i ⌝ }
 {
     if word32::is_marked(finished, i) {
         return true;

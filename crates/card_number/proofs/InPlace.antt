@@ -52,7 +52,8 @@ module _ (w : List ℕ) (h : Head) (head-is : h ≡ headOf (cardOf w)) where
             lowest = h .lowest;
             finished = h .finished;
           })
-          → openTransaction (cardOf w) count address value ≡ record { card = cardOf left; refusal = 0; trans = h .upcoming }
+          → openTransaction (cardOf w) count address value
+          ≡ record { card = cardOf left; refusal = 0; trans = h .upcoming }
       unfolding openTransaction openingRefusal opening
       opened-now l mid left one o m e = rw (← open-are, lt-ltb d 32 l, e, m, o, head-is)
 
@@ -64,7 +65,8 @@ module _ (w : List ℕ) (h : Head) (head-is : h ≡ headOf (cardOf w)) where
   pub something-built : h .used ≢ 0 → eqb (cardOf w .used) 0 ≡ false
   something-built e = ne-eqb (cardOf w .used) 0 (rw head-is at e)
 
-  pub sealed-now : (slots : List ℕ) (r : ℕ) → r ≡ sealRefusal (cardOf w) slots → r ≡ 0 → (mid left : List ℕ) (one : FrameNo)
+  pub sealed-now : (slots : List ℕ) (r : ℕ) → r ≡ sealRefusal (cardOf w) slots → r ≡ 0
+      → (mid left : List ℕ) (one : FrameNo)
       → one .0 ≡ advance frameSpace (h .next .0) 1 → cardOf mid ≡ withSize (cardOf w) (h .next .0) (h .used)
       → cardOf left ≡ withHead (cardOf mid) (record {
         own = h .own;

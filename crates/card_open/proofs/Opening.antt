@@ -26,7 +26,8 @@ pub blank-card : (w : List ℕ) → Zeros w → cardOf w ≡ freshCard 0 0 0
 unfolding cardOf freshCard emptyWindow noSendings
 blank-card w clear =
     let sizes : listed (sizeIn w) 0 64 ≡ replicate 64 0 = listed-all (sizeIn w) 0 64 0 no-size in
-    let table : listed (sendingIn w) 0 32 ≡ replicate 32 noSending = listed-all (sendingIn w) noSending 32 0 no-sending in
+    let table : listed (sendingIn w) 0 32 ≡ replicate 32 noSending =
+    listed-all (sendingIn w) noSending 32 0 no-sending in
     rw (sizes, table, clear 0, clear 1, clear 2, clear 3, clear 4)
   where
     no-size : (k : ℕ) → sizeIn w k ≡ 0

@@ -46,7 +46,8 @@ module _ (w : List ℕ) (h : Head) (head-is : h ≡ headOf (cardOf w)) where
     starts : start ≡ slotStart (cardOf w) n
     starts = rw head-is at start-is
 
-    pub frame-inside : start + size ≤ length slots → record { offset = start; len = size } ≡ framePart (cardOf w) slots n
+    pub frame-inside : start + size ≤ length slots
+        → record { offset = start; len = size } ≡ framePart (cardOf w) slots n
     unfolding framePart
     frame-inside l = rw (← starts, ← size-is, le-leb (start + size) (length slots) l)
 
@@ -68,11 +69,13 @@ pub frame-is : (c : Card) (slots : List ℕ) (n : ℕ) → PartIs (framePart c s
 unfolding framePart frameIn
 frame-is c slots n = go (decLe (slotStart c n + sizeOf (c .window) n) (length slots))
   where
-    go : Dec (slotStart c n + sizeOf (c .window) n ≤ length slots) → PartIs (framePart c slots n) slots (frameIn c slots n)
+    go : Dec (slotStart c n + sizeOf (c .window) n ≤ length slots)
+        → PartIs (framePart c slots n) slots (frameIn c slots n)
     go (yes l) = rw (le-leb (slotStart c n + sizeOf (c .window) n) (length slots) l) (record { inside = l; is = refl })
     go (no l) = rw (lt-leb (slotStart c n + sizeOf (c .window) n) (length slots) (omega arith)) (none-is slots)
 
-pub lies-inside : (c : Card) (slots : List ℕ) (n : ℕ) (p : Part) → p ≡ framePart c slots n → PartIs p slots (frameIn c slots n)
+pub lies-inside : (c : Card) (slots : List ℕ) (n : ℕ) (p : Part) → p ≡ framePart c slots n
+    → PartIs p slots (frameIn c slots n)
 lies-inside c slots n p e = rw e (frame-is c slots n)
 
 -- ---- showing

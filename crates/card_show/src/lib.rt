@@ -64,7 +64,8 @@ pub fn sealed_frame<'a>(words: &[u64], slots: &'a [u8], n: FrameNo) -> &'a [u8]
 
 // The refusal of showing a frame, 0 for none.
 pub fn show_refusal(words: &[u64], slots: &[u8], n: FrameNo) -> u8
-    ensures { λ r. ⌜ r ≡ orNotCard (now (words .entry)) (showRefusal (cardOf (now (words .entry))) (now (slots .entry)) (n .0)) ⌝ }
+    ensures { λ r.
+        ⌜ r ≡ orNotCard (now (words .entry)) (showRefusal (cardOf (now (words .entry))) (now (slots .entry)) (n .0)) ⌝ }
 {
     if words.len() != card_words::CARD_WORDS {
         return card_words::NOT_CARD;

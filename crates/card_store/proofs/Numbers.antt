@@ -62,7 +62,8 @@ quarters-at x (suc (suc zero)) h = refl
 quarters-at x (suc (suc (suc zero))) h = refl
 quarters-at x (suc (suc (suc (suc j)))) h = absurd (omega arith)
 
-with-quarter : (x j v i : ℕ) → v < 65536 → j < 4 → i < 4 → quarter (withQuarter x j v) i ≡ getD (set (quarters x) j v) i 0
+with-quarter : (x j v i : ℕ) → v < 65536 → j < 4 → i < 4
+    → quarter (withQuarter x j v) i ≡ getD (set (quarters x) j v) i 0
 with-quarter x zero v i f h l =
     four-at v (quarter x 1) (quarter x 2) (quarter x 3) f (quarter-lt x 1) (quarter-lt x 2) (quarter-lt x 3) i l
 with-quarter x (suc zero) v i f h l =
@@ -89,7 +90,8 @@ whole x f =
 -- one number taken out of a word, and another put in
 swap : (x q p v rest : ℕ) → x ≡ rest + q * p → q * p < 18446744073709551616 → v * p < 18446744073709551616
     → rest + v * p < 18446744073709551616
-    → (q * p % 18446744073709551616 ≤ x) × (x - q * p % 18446744073709551616 + v * p % 18446744073709551616 < 18446744073709551616)
+    → (q * p % 18446744073709551616 ≤ x)
+    × (x - q * p % 18446744073709551616 + v * p % 18446744073709551616 < 18446744073709551616)
     × (x - q * p % 18446744073709551616 + v * p % 18446744073709551616 ≡ rest + v * p)
 swap x q p v rest is a b c =
     let o : q * p % 18446744073709551616 ≡ q * p = mod-eq-of-lt a in
@@ -98,8 +100,10 @@ swap x q p v rest is a b c =
 
 pub record Replaced (x j v : ℕ) : Type 0 where
   pub out-fits : quarter x j * 2 ^ (16 * j) % 18446744073709551616 ≤ x
-  pub sum-fits : x - quarter x j * 2 ^ (16 * j) % 18446744073709551616 + v * 2 ^ (16 * j) % 18446744073709551616 < 18446744073709551616
-  pub is : x - quarter x j * 2 ^ (16 * j) % 18446744073709551616 + v * 2 ^ (16 * j) % 18446744073709551616 ≡ withQuarter x j v
+  pub sum-fits : x - quarter x j * 2 ^ (16 * j) % 18446744073709551616 + v * 2 ^ (16 * j) % 18446744073709551616
+      < 18446744073709551616
+  pub is : x - quarter x j * 2 ^ (16 * j) % 18446744073709551616 + v * 2 ^ (16 * j) % 18446744073709551616
+      ≡ withQuarter x j v
 
 pub replaced : (x j v : ℕ) → x < 18446744073709551616 → j < 4 → v < 65536 → Replaced x j v
 replaced x zero v f h l =

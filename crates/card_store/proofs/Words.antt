@@ -28,7 +28,8 @@ before-run [] w i k h = refl
 before-run (v ∷ vs) w i k h =
     before-run vs (set w i v) (suc i) k (omega arith) ∙ getD-set-other w i k v 0 (λ e. omega arith)
 
-in-run : (vs w : List ℕ) (i j : ℕ) → j < length vs → i + length vs ≤ length w → getD (sets w i vs) (i + j) 0 ≡ getD vs j 0
+in-run : (vs w : List ℕ) (i j : ℕ) → j < length vs → i + length vs ≤ length w
+    → getD (sets w i vs) (i + j) 0 ≡ getD vs j 0
 in-run [] w i j h l = absurd (not-suc-le-zero h)
 in-run (v ∷ vs) w i zero h l =
     let z : i + 0 ≡ i = add-zero i in
@@ -90,7 +91,8 @@ module _ (w : List ℕ) (n v : ℕ) (long : length w ≡ 85) (fits : v < 65536) 
 
 -- ---- a transaction
 
-pub sending-by : (a b : ℕ) (e : Sending) → Halved a (e .address) (e .value) → Quartered b (e .count) (e .added) (e .frame .0) 0
+pub sending-by : (a b : ℕ) (e : Sending) → Halved a (e .address) (e .value)
+    → Quartered b (e .count) (e .added) (e .frame .0) 0
     → sendingBy a b ≡ e
 sending-by a b e h q = rw (h .low, h .high, q .first, q .second, q .third)
 
@@ -143,7 +145,8 @@ module _ (w : List ℕ) (t a b : ℕ) (long : length w ≡ 85) where
 -- ---- the head
 
 module _ (w : List ℕ) (h : Head) (ids frames numbers fin : ℕ) (long : length w ≡ 85)
-    (i : Quartered ids (h .own) (h .peer) (h .limit) (h .used)) (f : Quartered frames (h .last) (h .next .0) (h .base .0) 0)
+    (i : Quartered ids (h .own) (h .peer) (h .limit) (h .used))
+    (f : Quartered frames (h .last) (h .next .0) (h .base .0) 0)
     (n : Halved numbers (h .upcoming .0) (h .lowest .0)) (d : Halved fin (h .finished) 0) where
   abbrev stored : List ℕ
   stored = ids ∷ frames ∷ h .acked ∷ numbers ∷ fin ∷ []

@@ -16,11 +16,13 @@ listed-at f d (suc n) k (suc j) h =
     let e : suc k + j ≡ k + suc j = omega arith in
     listed-at f d n (suc k) j (omega arith) ∙ ap f e
 
-pub listed-same : {A : Type 0} (f g : ℕ → A) (n k : ℕ) → ((j : ℕ) → k ≤ j → j < k + n → g j ≡ f j) → listed g k n ≡ listed f k n
+pub listed-same : {A : Type 0} (f g : ℕ → A) (n k : ℕ) → ((j : ℕ) → k ≤ j → j < k + n → g j ≡ f j)
+    → listed g k n ≡ listed f k n
 unfolding listed
 listed-same f g zero k h = refl
 listed-same f g (suc n) k h =
-    let rest : listed g (suc k) n ≡ listed f (suc k) n = listed-same f g n (suc k) (λ j l m. h j (omega arith) (omega arith)) in
+    let rest : listed g (suc k) n ≡ listed f (suc k) n =
+    listed-same f g n (suc k) (λ j l m. h j (omega arith) (omega arith)) in
     rw (h k (omega arith) (omega arith), rest)
 
 -- one element is another
@@ -38,7 +40,8 @@ listed-put f g v (suc n) k (suc s) l e h =
     let on : k + suc s ≡ suc k + s = omega arith in
     let first : g k ≡ f k = h k (omega arith) (omega arith) (λ q. omega arith) in
     let rest : listed g (suc k) n ≡ set (listed f (suc k) n) s v =
-    listed-put f g v n (suc k) s (omega arith) (rw on at e) (λ j x y q. h j (omega arith) (omega arith) (λ p. q (omega arith))) in
+    listed-put f g v n (suc k) s (omega arith) (rw on at e)
+    (λ j x y q. h j (omega arith) (omega arith) (λ p. q (omega arith))) in
     rw (first, rest)
 
 pub listed-set : {A : Type 0} (f g : ℕ → A) (v : A) (n s : ℕ) → s < n → g s ≡ v

@@ -29,7 +29,8 @@ module _ (w slots : List ℕ) (long : length w ≡ 85) where
       ap (λ (x : Showing). x .refusal) is
       ∙ rw (eq-eqb (length w) 85 long) (showing-carries _ _ _ refl refl)
 
-  pub chosen-refusal : (ack : List ℕ) (k : Choice) → k ≡ chosenPart w slots ack → k .refusal ≡ nextChosen w slots ack .refusal
+  pub chosen-refusal : (ack : List ℕ) (k : Choice) → k ≡ chosenPart w slots ack
+      → k .refusal ≡ nextChosen w slots ack .refusal
   unfolding chosenPart
   chosen-refusal ack k is =
       ap (λ (x : Choice). x .refusal) is ∙ go (eqb (chooseRefusal (cardOf w) slots ack) 0) refl (isAck ack) refl

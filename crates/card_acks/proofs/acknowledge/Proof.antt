@@ -30,7 +30,11 @@ trailing-ones-requires c κs = search needs
 
 cast-advance : tie.Need-cast-advance
 cast-advance c =
-    omega (arith, c .trailing-ones .ensures, ones-le 64 (c .before .before .before .before .before .acknowledged-marks .result))
+    omega (
+      arith,
+      c .trailing-ones .ensures,
+      ones-le 64 (c .before .before .before .before .before .acknowledged-marks .result),
+    )
 
 advance-requires : tie.Need-advance-requires
 advance-requires c κs = search needs

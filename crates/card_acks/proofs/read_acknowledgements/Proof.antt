@@ -32,7 +32,8 @@ returns-2 c =
     let h = r .before in
     let m = h .before .before in
     let a = m .before .before .before .args in
-    let done = reading-refused (a .words .now) _ (h .head-of .ensures) (a .f .now) _ (r .refusal-of .ensures) (c .if2 .taken) in (
+    let done = reading-refused (a .words .now) _ (h .head-of .ensures) (a .f .now) _ (r .refusal-of .ensures)
+    (c .if2 .taken) in (
       rw (eq-eqb _ 85 (m .if1 .left), done),
       (λ l. sym (ap (λ (s : Stepped). s .card) done), λ n. refl),
     )
@@ -56,7 +57,8 @@ returns-3 c =
     let m = h .before .before in
     let a = m .before .before .before .args in
     let long = m .if1 .left in
-    let done = reading-done (a .words .now) _ (h .head-of .ensures) (a .f .now) _ (r .refusal-of .ensures) (i .if2 .left) _ _
+    let done =
+    reading-done (a .words .now) _ (h .head-of .ensures) (a .f .now) _ (r .refusal-of .ensures) (i .if2 .left) _ _
     (b .frame-header .ensures) (k .acknowledge .ensures long) in (
       rw (eq-eqb _ 85 long, done),
       (λ l. sym (ap (λ (s : Stepped). s .card) done), λ n. absurd (n refl)),

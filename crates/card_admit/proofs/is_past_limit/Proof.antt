@@ -31,7 +31,8 @@ returns c =
 returns-2 : tie.Need-returns-2
 returns-2 c =
     let a = c .before .before .before .args in
-    past-limit (a .limit) (c .before .header-offset .result + 24) (length (a .payload .now)) (omega (arith, c .if1 .left))
+    past-limit (a .limit) (c .before .header-offset .result + 24) (length (a .payload .now))
+    (omega (arith, c .if1 .left))
     ∙ ap (λ (n : ℕ). ltb (a .limit) (n + 24 + length (a .payload .now))) (c .before .header-offset .ensures)
 
 pub is-past-limit-spec : {M : Type 1} → statement M

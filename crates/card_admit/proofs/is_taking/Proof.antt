@@ -25,7 +25,8 @@ returns c =
     let d = c .before in
     let s = d .before .before .before .before in
     let a = s .before .before .args in
-    takes-none (a .words .now) _ (s .head-of .ensures) _ (d .before .distance .ensures) (a .t .0) _ (d .distance2 .ensures)
+    takes-none (a .words .now) _ (s .head-of .ensures) _ (d .before .distance .ensures) (a .t .0) _
+    (d .distance2 .ensures)
     (c .if1 .taken)
 
 sending-at-requires : tie.Need-sending-at-requires
@@ -41,7 +42,8 @@ returns-2 c =
     let d = x .before in
     let s = d .before .before .before .before in
     let a = s .before .before .args in
-    takes-some (a .words .now) _ (s .head-of .ensures) _ (d .before .distance .ensures) (a .t .0) _ (d .distance2 .ensures)
+    takes-some (a .words .now) _ (s .head-of .ensures) _ (d .before .distance .ensures) (a .t .0) _
+    (d .distance2 .ensures)
     (x .if1 .left) _ _ (m .before .sending-at .ensures) (m .messages-of .ensures)
 
 pub is-taking-spec : {M : Type 1} → statement M

@@ -19,7 +19,8 @@ use Rattle.card_build.proofs.write_message.Reads as write-message-reads
 
 returns : tie.Need-returns
 unfolding addedIn
-returns c = (rw (ne-eqb _ 85 (c .if1 .taken)), ((λ l. absurd (c .if1 .taken l), λ n. refl), rw (ne-eqb _ 85 (c .if1 .taken))))
+returns c =
+    (rw (ne-eqb _ 85 (c .if1 .taken)), ((λ l. absurd (c .if1 .taken l), λ n. refl), rw (ne-eqb _ 85 (c .if1 .taken))))
 
 add-refusal-requires : tie.Need-add-refusal-requires
 add-refusal-requires c κs = search needs
@@ -47,7 +48,8 @@ write-message-requires c κs =
     let s = c .before .before in
     let q = s .before in
     let a = q .before .before .before .before .before .before .before .args in
-    addable (cardOf (a .words .now)) (a .slots .now) (a .t .0) (a .payload .now) (sym (q .add-refusal .ensures) ∙ s .if2 .left)
+    addable (cardOf (a .words .now)) (a .slots .now) (a .t .0) (a .payload .now)
+    (sym (q .add-refusal .ensures) ∙ s .if2 .left)
     .slots-fit
 
 count-message-requires : tie.Need-count-message-requires
@@ -80,7 +82,8 @@ returns-3 c =
     let q = s .before in
     let m = q .before .before .before in
     let a = m .before .before .before .before .args in
-    let done = adding-done (cardOf (a .words .now)) (a .slots .now) (a .t .0) (a .at) (a .payload .now) _ (q .add-refusal .ensures)
+    let done = adding-done (cardOf (a .words .now)) (a .slots .now) (a .t .0) (a .at) (a .payload .now) _
+    (q .add-refusal .ensures)
     (s .if2 .left) in (
       rw (eq-eqb _ 85 (m .if1 .left), done),
       (

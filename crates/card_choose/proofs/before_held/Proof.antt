@@ -23,7 +23,8 @@ returns : tie.Need-returns
 returns c =
     let d = c .before in
     let s = d .before .before .before in
-    before-is (s .before .before .args .words .now) _ (s .head-of .ensures) _ (d .distance .ensures) _ (c .run-within .ensures)
+    before-is (s .before .before .args .words .now) _ (s .head-of .ensures) _ (d .distance .ensures) _
+    (c .run-within .ensures)
 
 pub before-held-spec : {M : Type 1} → statement M
 before-held-spec =

@@ -27,7 +27,11 @@ returns-2 : tie.Need-returns-2
 unfolding chosenPart
 returns-2 c =
     let i = c .before .before in
-    rw (← i .before .choose-refusal .ensures, eq-eqb _ 0 (i .if1 .left), sym (c .before .is-ack .ensures) ∙ c .if2 .taken)
+    rw (
+      ← i .before .choose-refusal .ensures,
+      eq-eqb _ 0 (i .if1 .left),
+      sym (c .before .is-ack .ensures) ∙ c .if2 .taken,
+    )
 
 oldest-held-requires : tie.Need-oldest-held-requires
 oldest-held-requires c κs = search needs

@@ -23,7 +23,8 @@ returns : tie.Need-returns
 returns c =
     let b = c .before in
     let s = b .before .before in
-    oldest-is (s .before .before .args .words .now) _ (s .head-of .ensures) _ _ (b .before-held .ensures) (c .advance .ensures)
+    oldest-is (s .before .before .args .words .now) _ (s .head-of .ensures) _ _ (b .before-held .ensures)
+    (c .advance .ensures)
 
 pub oldest-held-spec : {M : Type 1} → statement M
 oldest-held-spec =

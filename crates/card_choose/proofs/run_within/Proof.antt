@@ -19,13 +19,15 @@ cast-run c = omega (arith, c .trailing-ones .ensures, ones-le 64 (c .before .arg
 returns : tie.Need-returns
 returns c =
     let a = c .before .before .args in
-    sym (ones-cut 64 (a .marks) (a .most) (search needs) (omega (arith, c .before .trailing-ones .ensures, c .if1 .taken)))
+    sym (ones-cut 64 (a .marks) (a .most) (search needs)
+    (omega (arith, c .before .trailing-ones .ensures, c .if1 .taken)))
 
 returns-2 : tie.Need-returns-2
 returns-2 c =
     let a = c .before .before .args in
     c .before .trailing-ones .ensures
-    ∙ sym (ones-whole 64 (a .marks) (a .most) (search needs) (omega (arith, c .before .trailing-ones .ensures, c .if1 .left)))
+    ∙ sym (ones-whole 64 (a .marks) (a .most) (search needs)
+    (omega (arith, c .before .trailing-ones .ensures, c .if1 .left)))
 
 pub run-within-spec : {M : Type 1} → statement M
 run-within-spec = tie.close (tie.spec trailing-ones-requires cast-run returns returns-2)

@@ -28,7 +28,8 @@ returns c =
     let d = c .before .before in
     let a = d .before .args in
     c .before .between .ensures
-    ∙ covered-near (a .base .0) (a .start .0) (a .count) _ (search needs) (search needs) (search needs) (d .distance .ensures)
+    ∙ covered-near (a .base .0) (a .start .0) (a .count) _ (search needs) (search needs) (search needs)
+    (d .distance .ensures)
     (c .if1 .taken)
 
 sub-below : tie.Need-sub-below
@@ -43,7 +44,8 @@ returns-2 c =
     let d = s .before .before in
     let a = d .before .args in
     rw (s .before .between .ensures, c .below .ensures)
-    (covered-round (a .base .0) (a .start .0) (a .count) _ (search needs) (search needs) (search needs) (d .distance .ensures)
+    (covered-round (a .base .0) (a .start .0) (a .count) _ (search needs) (search needs) (search needs)
+    (d .distance .ensures)
     (s .if1 .left))
 
 pub covered-spec : {M : Type 1} → statement M

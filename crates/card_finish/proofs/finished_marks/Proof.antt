@@ -59,7 +59,8 @@ loop-again c =
     let h = s .head-of .ensures in
     let most = looked-at w _ h _ _ (m .before .distance .ensures) (m .at-most-32 .ensures) in
     let l = c .before .before .loop-test .taken in
-    one-more 32 _ _ _ (c .before .before .before .loop .inv) (within-32 (cardOf w .sendings) (a .base .0) (a .next .0) _ most _ l)
+    one-more 32 _ _ _ (c .before .before .before .loop .inv)
+    (within-32 (cardOf w .sendings) (a .base .0) (a .next .0) _ most _ l)
     (c .before .is-finished .ensures
     ∙ one-is (cardOf w .sendings) (a .base .0) (a .next .0) _ most _ _ _ l (finished-is w _ h) (lowest-is w _ h))
     (⊎-elim (λ t. t .2 ∙ t .1 .ensures ∙ sym (rw (t .0 .taken))) (λ l. l .1 ∙ sym (rw (l .0 .left))) (c .if1 .came))

@@ -30,7 +30,8 @@ unfolding delivered
 returns-2 c =
     let s = c .before .before .before in
     let a = s .before .before .before .args in
-    let unreleased : c .before .distance .result ≡ distance frameSpace (a .base .0) (a .next .0) = c .before .distance .ensures in
+    let unreleased : c .before .distance .result ≡ distance frameSpace (a .base .0) (a .next .0) =
+    c .before .distance .ensures in
     let away : c .distance2 .result ≡ distance frameSpace (a .base .0) (a .e .frame .0) = c .distance2 .ensures in
     rw (← s .before .before .messages-of .ensures, eq-eqb _ _ (s .if1 .left), ← unreleased, ← away)
 

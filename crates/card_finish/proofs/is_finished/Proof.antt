@@ -41,7 +41,8 @@ returns-2 c =
     let a = o .before .before .before .args in
     let m : o .before .is-marked .result ≡ mark (a .finished) (a .i) = o .before .is-marked .ensures in
     rw (← m, o .if1 .left)
-    (c .is-delivered .ensures ∙ rw (e .sending-at .ensures, e .before .advance .ensures, entry-is _ (a .lowest .0) (a .i)))
+    (c .is-delivered .ensures
+    ∙ rw (e .sending-at .ensures, e .before .advance .ensures, entry-is _ (a .lowest .0) (a .i)))
 
 pub is-finished-spec : {M : Type 1} → statement M
 is-finished-spec =

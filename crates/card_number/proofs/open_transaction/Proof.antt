@@ -35,7 +35,8 @@ returns-2 c =
     let d = c .before in
     let s = d .before .before .before in
     let a = s .before .before .before .before .args in
-    let full = window-full (a .words .now) _ (s .head-of .ensures) _ (d .distance .ensures) (a .count) (a .address) (a .value)
+    let full =
+    window-full (a .words .now) _ (s .head-of .ensures) _ (d .distance .ensures) (a .count) (a .address) (a .value)
     (c .if2 .taken) in (
       rw (eq-eqb _ 85 (s .before .before .if1 .left), full),
       (λ l. sym (ap (λ (o : TransOpened). o .card) full), λ n. refl),
@@ -64,8 +65,10 @@ returns-3 c =
     let s = d .before .before .before in
     let a = s .before .before .before .before .args in
     let long = s .before .before .if1 .left in
-    let done = opened-now (a .words .now) _ (s .head-of .ensures) _ (d .distance .ensures) (a .count) (a .address) (a .value)
-    (r .if2 .left) _ _ _ (one .advance .ensures) (e .put-sending .ensures .0 long) (p .put-head .ensures .0 (search needs)) in (
+    let done =
+    opened-now (a .words .now) _ (s .head-of .ensures) _ (d .distance .ensures) (a .count) (a .address) (a .value)
+    (r .if2 .left) _ _ _ (one .advance .ensures) (e .put-sending .ensures .0 long)
+    (p .put-head .ensures .0 (search needs)) in (
       rw (eq-eqb _ 85 long, done),
       (λ l. sym (ap (λ (o : TransOpened). o .card) done), λ n. absurd (n refl)),
     )

@@ -63,7 +63,8 @@ returns-3 c =
     let q = s .before .before in
     let m = q .before .before in
     let a = m .before .before .before .args in
-    let done = sealed-now (a .words .now) _ (s .head-of .ensures) (a .slots .now) _ (q .seal-refusal .ensures) (i .if2 .left)
+    let done =
+    sealed-now (a .words .now) _ (s .head-of .ensures) (a .slots .now) _ (q .seal-refusal .ensures) (i .if2 .left)
     _ _ _ (one .advance .ensures) (z .put-size .ensures .0 (m .if1 .left)) (p .put-head .ensures .0 (search needs)) in (
       rw (eq-eqb _ 85 (m .if1 .left), done),
       (λ l. sym (ap (λ (o : Sealed). o .card) done), λ n. absurd (n refl)),

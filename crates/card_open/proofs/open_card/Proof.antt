@@ -32,7 +32,8 @@ returns-2 c =
     let z = c .before .before .before in
     let m = z .before .before in
     let a = m .before .before .before .before .args in
-    let done = opening-refused (a .own) (a .peer) (a .limit) (a .slots .now) _ (m .card-refusal .ensures) (c .if2 .taken) in (
+    let done =
+    opening-refused (a .own) (a .peer) (a .limit) (a .slots .now) _ (m .card-refusal .ensures) (c .if2 .taken) in (
       rw (eq-eqb _ 85 (m .before .if1 .left), done),
       (
         λ l. blank-card _ (z .clear .ensures) ∙ sym (ap (λ (s : Stepped). s .card) done),
@@ -45,7 +46,10 @@ cast-t14 c =
     let s = c .before in
     let m = s .before .before .before .before .before in
     let a = m .before .before .before .before .args in
-    omega (arith, opened-limit (a .own) (a .peer) (a .limit) (a .slots .now) (sym (m .card-refusal .ensures) ∙ s .if2 .left))
+    omega (
+      arith,
+      opened-limit (a .own) (a .peer) (a .limit) (a .slots .now) (sym (m .card-refusal .ensures) ∙ s .if2 .left),
+    )
 
 put-head-requires : tie.Need-put-head-requires
 put-head-requires c κs = search needs
@@ -60,7 +64,8 @@ returns-3 c =
     let z = s .before .before .before in
     let m = z .before .before in
     let a = m .before .before .before .before .args in
-    let done = opening-done (a .own) (a .peer) (a .limit) (a .slots .now) _ (m .card-refusal .ensures) (s .if2 .left) in (
+    let done =
+    opening-done (a .own) (a .peer) (a .limit) (a .slots .now) _ (m .card-refusal .ensures) (s .if2 .left) in (
       rw (eq-eqb _ 85 (m .before .if1 .left), done),
       (
         λ l. p .put-head .ensures .0 (search needs)

@@ -30,7 +30,8 @@ returns c =
     let z = c .before in
     let s = z .before .before in
     let a = s .before .before .before .args in
-    frame-inside (a .words .now) _ (s .head-of .ensures) (a .slots .now) (a .n .0) _ _ (z .before .slot-start .ensures .0)
+    frame-inside (a .words .now) _ (s .head-of .ensures) (a .slots .now) (a .n .0) _ _
+    (z .before .slot-start .ensures .0)
     (z .size-at .ensures) (c .if1 .taken)
 
 returns-2 : tie.Need-returns-2
@@ -38,7 +39,8 @@ returns-2 c =
     let z = c .before in
     let s = z .before .before in
     let a = s .before .before .before .args in
-    frame-outside (a .words .now) _ (s .head-of .ensures) (a .slots .now) (a .n .0) _ _ (z .before .slot-start .ensures .0)
+    frame-outside (a .words .now) _ (s .head-of .ensures) (a .slots .now) (a .n .0) _ _
+    (z .before .slot-start .ensures .0)
     (z .size-at .ensures) (c .if1 .left)
 
 pub frame-part-spec : {M : Type 1} → statement M

@@ -24,7 +24,8 @@ returns c =
     let d = c .before in
     let s = d .before .before .before .before in
     let a = s .before .before .args in
-    not-sealed (a .words .now) _ (s .head-of .ensures) _ (d .distance2 .ensures) (a .n .0) _ (d .before .distance .ensures)
+    not-sealed (a .words .now) _ (s .head-of .ensures) _ (d .distance2 .ensures) (a .n .0) _
+    (d .before .distance .ensures)
     (c .if1 .taken)
 
 cast-is-marked : tie.Need-cast-is-marked
@@ -39,7 +40,8 @@ returns-2 c =
     let d = o .before in
     let s = d .before .before .before .before in
     let a = s .before .before .args in
-    sealed-held (a .words .now) _ (s .head-of .ensures) _ (d .distance2 .ensures) (a .n .0) _ (d .before .distance .ensures)
+    sealed-held (a .words .now) _ (s .head-of .ensures) _ (d .distance2 .ensures) (a .n .0) _
+    (d .before .distance .ensures)
     (o .if1 .left) _ (c .is-marked .ensures)
 
 pub is-held-spec : {M : Type 1} → statement M

@@ -17,7 +17,10 @@ frame-part-requires c κs = search needs
 add-end : tie.Need-add-end
 add-end c =
     let a = c .before .before .before .before .args in
-    omega (arith, lies-inside (cardOf (a .words .now)) (a .slots .now) (a .n .0) _ (c .before .frame-part .ensures) .inside)
+    omega (
+      arith,
+      lies-inside (cardOf (a .words .now)) (a .slots .now) (a .n .0) _ (c .before .frame-part .ensures) .inside,
+    )
 
 sub-result : tie.Need-sub-result
 sub-result c = search needs
@@ -28,13 +31,17 @@ part-result-start c = search needs
 part-result-end : tie.Need-part-result-end
 part-result-end c =
     let a = c .before .before .before .before .args in
-    omega (arith, lies-inside (cardOf (a .words .now)) (a .slots .now) (a .n .0) _ (c .before .frame-part .ensures) .inside)
+    omega (
+      arith,
+      lies-inside (cardOf (a .words .now)) (a .slots .now) (a .n .0) _ (c .before .frame-part .ensures) .inside,
+    )
 
 returns : tie.Need-returns
 returns c =
     let p = c .before .before in
     let a = p .before .before .before .args in
-    rw add-sub-cancel-left (lies-inside (cardOf (a .words .now)) (a .slots .now) (a .n .0) _ (p .frame-part .ensures) .is)
+    rw add-sub-cancel-left
+    (lies-inside (cardOf (a .words .now)) (a .slots .now) (a .n .0) _ (p .frame-part .ensures) .is)
 
 pub sealed-frame-spec : {M : Type 1} → statement M
 sealed-frame-spec =

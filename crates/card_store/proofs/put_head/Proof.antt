@@ -39,7 +39,8 @@ returns-2 c =
     let f = m .before .before in
     let a = f .before .before .before .before .args in (
       λ l. rw (s .put-five .ensures)
-          (headed-card (a .w .now) (a .h) _ _ _ _ l (f .before .four .ensures .1) (f .four2 .ensures .1) (m .before .two .ensures)
+          (headed-card (a .w .now) (a .h) _ _ _ _ l (f .before .four .ensures .1) (f .four2 .ensures .1)
+          (m .before .two .ensures)
           (m .two2 .ensures)),
       λ n. absurd (n (f .before .before .if1 .left)),
     )

@@ -17,8 +17,10 @@ choose-part-requires c κs = search needs
 returns : tie.Need-returns
 returns c =
     let a = c .before .before .before .before .args in
-    let long : length (a .words .now) ≡ 85 = omega arith in
-    (c .choose-part .ensures, chosen-refusal (a .words .now) (a .slots .now) long (a .ack .now) _ (c .choose-part .ensures))
+    let long : length (a .words .now) ≡ 85 = omega arith in (
+      c .choose-part .ensures,
+      chosen-refusal (a .words .now) (a .slots .now) long (a .ack .now) _ (c .choose-part .ensures),
+    )
 
 pub choose-part-spec : {M : Type 1} → statement M
 choose-part-spec = tie.close (tie.spec choose-part-requires returns)
