@@ -33,7 +33,8 @@ const NOTHING: Line = Line {
 };
 
 fn put_line(out: &mut [u64; 8], l: Line)
-    ensures { λ _. ⌜ now (out .exit) ≡ l .kind ∷ l .number ∷ l .messages ∷ l .bytes ∷ l .completed ∷ l .refusal ∷ l .place ∷ l .run ∷ [] ⌝ }
+    ensures { λ _. ⌜ now (out .exit)
+        ≡ l .kind ∷ l .number ∷ l .messages ∷ l .bytes ∷ l .completed ∷ l .refusal ∷ l .place ∷ l .run ∷ [] ⌝ }
 {
     *out = [
         l.kind,

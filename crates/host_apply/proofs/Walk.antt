@@ -27,7 +27,8 @@ use Rattle.host_apply.specs.Applying.{Applied, appliedFrom, TakesEffect}
 -- ---- one step of the definition
 
 module _ (f : List ℕ) (at n : ℕ) (table : List Open) (memory : List ℕ) where
-  pub applied-past : length f < dataEnd f at → appliedFrom n f at table memory ≡ record { table = table; memory = memory }
+  pub applied-past : length f < dataEnd f at
+      → appliedFrom n f at table memory ≡ record { table = table; memory = memory }
   unfolding appliedFrom
   applied-past h = go n
     where
@@ -47,7 +48,8 @@ module _ (f : List ℕ) (at n : ℕ) (table : List Open) (memory : List ℕ) whe
 
 -- ---- a message as its header and its data as a part of the frame
 
-module _ {f : List ℕ} {at : ℕ} {h : MessageHeader} {len : ℕ} {more : Bool} {next : ℕ} (x : IsWhole f at h len more next) where
+module _ {f : List ℕ} {at : ℕ} {h : MessageHeader} {len : ℕ} {more : Bool} {next : ℕ}
+    (x : IsWhole f at h len more next) where
   head-is : h ≡ headOf (messageAt f at)
   unfolding headOf messageAt headAt
   head-is = x .header-is
@@ -78,7 +80,8 @@ applying-start w f memory n l =
       is = ap (λ (k : ℕ). appliedFrom k f 10 (pairOf w .table) memory) z;
     }
 
-module _ {w₀ f memory₀ : List ℕ} {n : ℕ} {w memory : List ℕ} {at i : ℕ} (g : Applying w₀ f memory₀ n w memory at i) where
+module _ {w₀ f memory₀ : List ℕ} {n : ℕ} {w memory : List ℕ} {at i : ℕ}
+    (g : Applying w₀ f memory₀ n w memory at i) where
   abbrev whole : Applied
   whole = appliedFrom n f 10 (pairOf w₀ .table) memory₀
 
@@ -90,7 +93,8 @@ module _ {w₀ f memory₀ : List ℕ} {n : ℕ} {w memory : List ℕ} {at i : �
     ap (λ (a : Applied). a .memory) (sym e),
   )
 
-  pub applying-past : foundAt f at ≡ PastEnd → (pairOf w ≡ joined (headPart (pairOf w₀)) (whole .table)) × (memory ≡ whole .memory)
+  pub applying-past : foundAt f at ≡ PastEnd
+      → (pairOf w ≡ joined (headPart (pairOf w₀)) (whole .table)) × (memory ≡ whole .memory)
   applying-past e = ended (g .is ∙ applied-past f at (n - i) (pairOf w .table) memory (is-past f at e))
 
   pub applying-done : n ≤ i → (pairOf w ≡ joined (headPart (pairOf w₀)) (whole .table)) × (memory ≡ whole .memory)
@@ -121,7 +125,8 @@ module _ {w₀ f memory₀ : List ℕ} {n : ℕ} {w memory : List ℕ} {at i : �
           long = g .long;
           same-words = same ∙ g .same-words;
           same-memory =
-              ap length (t .1) ∙ length-effect memory (carrying h (dataAt f at)) (fills (entryOf w s) h) ∙ g .same-memory;
+              ap length (t .1) ∙ length-effect memory (carrying h (dataAt f at)) (fills (entryOf w s) h)
+              ∙ g .same-memory;
           low = omega arith;
           head = rw pair-is (g .head);
           is =

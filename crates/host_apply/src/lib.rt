@@ -22,7 +22,8 @@ fn write_message(memory: &mut [u8], h: MessageHeader, payload: &[u8], done: bool
 
 // One message takes effect: its data and its completion are written, and its entry is what it leaves.
 fn take_effect(words: &mut [u64], memory: &mut [u8], h: MessageHeader, payload: &[u8])
-    ensures { λ _. ⌜ TakesEffect (now (words .entry)) (now (memory .entry)) h (now (payload .entry)) (now (words .exit)) (now (memory .exit)) ⌝ }
+    ensures { λ _. ⌜ TakesEffect (now (words .entry)) (now (memory .entry)) h (now (payload .entry)) (now (words .exit))
+        (now (memory .exit)) ⌝ }
 {
     let o = host_words::entry(words, h.trans.0);
     write_message(memory, h, payload, host_verdict::completes(o, h));
@@ -31,7 +32,8 @@ fn take_effect(words: &mut [u64], memory: &mut [u8], h: MessageHeader, payload: 
 
 // The first n messages of a frame take effect, or as many as it has.
 pub fn apply(words: &mut [u64], f: &[u8], memory: &mut [u8], n: u32)
-    ensures { λ _. ⌜ Applies (now (words .entry)) (now (f .entry)) (now (memory .entry)) n (now (words .exit)) (now (memory .exit)) ⌝ }
+    ensures { λ _. ⌜ Applies (now (words .entry)) (now (f .entry)) (now (memory .entry)) n (now (words .exit))
+        (now (memory .exit)) ⌝ }
 {
     if words.len() != host_words::WORDS {
         return;

@@ -12,7 +12,17 @@ use lib.ListN.{length, replicate, length-append}
 use lib.Seq.{sets, length-sets}
 use Rattle.octets.proofs.Octets.{sets-append}
 use Rattle.host.specs.declared.Pair.{Pair}
-use Rattle.host_describe.specs.Describing.{numberAt, entryAt, isOpen, five, openWords, openCount, headWords, PutsOpen, description}
+use Rattle.host_describe.specs.Describing.{
+  numberAt,
+  entryAt,
+  isOpen,
+  five,
+  openWords,
+  openCount,
+  headWords,
+  PutsOpen,
+  description,
+}
 
 -- ---- how many there are: counted so far and to be counted
 
@@ -59,7 +69,8 @@ module _ {p : Pair} {count j : ℕ} (g : Counting p count j) where
   pub counting-done : 32 ≤ j → count ≡ openCount 32 0 p
   counting-done h =
       let z : 32 - j ≡ 0 = omega (arith, h) in
-      sym (g .is ∙ ap (λ (n : ℕ). count + openCount n j p) z ∙ ap (λ (n : ℕ). count + n) (count-none j p) ∙ add-zero count)
+      sym (g .is ∙ ap (λ (n : ℕ). count + openCount n j p) z ∙ ap (λ (n : ℕ). count + n) (count-none j p)
+      ∙ add-zero count)
 
 -- ---- the words: those stored so far, and those to come
 
@@ -93,7 +104,8 @@ module _ {p : Pair} {out : List ℕ} {at j : ℕ} (g : Storing p out at j) where
       let one : 32 - j ≡ suc (32 - (j + 1)) = omega arith in
       g .is ∙ ap (λ (n : ℕ). g .stored ++ openWords n j p) one ∙ rw (add-one j)
 
-  pub storing-open : (left : List ℕ) → j < 32 → isOpen p j ≡ true → left ≡ sets out at (five (numberAt p j) (entryAt p j))
+  pub storing-open : (left : List ℕ) → j < 32 → isOpen p j ≡ true
+      → left ≡ sets out at (five (numberAt p j) (entryAt p j))
       → Storing p left (at + 5) (j + 1)
   storing-open left l z e =
       record {
@@ -131,4 +143,5 @@ module _ {p : Pair} {out : List ℕ} {at j : ℕ} (g : Storing p out at j) where
   storing-done h =
       let z : 32 - j ≡ 0 = omega (arith, h) in
       g .out-is
-      ∙ ap (sets (replicate 167 0) 0) (sym (g .is ∙ ap (λ (n : ℕ). g .stored ++ openWords n j p) z ∙ append-nil (g .stored)))
+      ∙ ap (sets (replicate 167 0) 0)
+      (sym (g .is ∙ ap (λ (n : ℕ). g .stored ++ openWords n j p) z ∙ append-nil (g .stored)))

@@ -6,7 +6,15 @@ ghost use Prim.Native.Nat.{_<_, _≤_, _+_, _*_};
 ghost use lib.ListN.{length};
 ghost use lib.Seq.{sets};
 ghost use Rattle.host_words.specs.Words.{pairOf};
-ghost use Rattle.host_describe.specs.Describing.{numberAt, entryAt, five, openCount, headWords, PutsOpen, description};
+ghost use Rattle.host_describe.specs.Describing.{
+  numberAt,
+  entryAt,
+  five,
+  openCount,
+  headWords,
+  PutsOpen,
+  description,
+};
 
 // The number of the transaction j past the lowest one.
 fn number_at(words: &[u64], j: u32) -> u32

@@ -1,5 +1,5 @@
-// The refusal of one message at the host, 7 to 12. Assumes nothing of the state that it is held against, which may be one
-// that no run reaches. It promises host/specs/Terms.antt, messageRefusal.
+// The refusal of one message at the host, 7 to 12. Assumes nothing of the state that it is held against, which may be
+// one that no run reaches. It promises host/specs/Terms.antt, messageRefusal.
 use bitmap::word32;
 use host::Open;
 use wire::MessageHeader;

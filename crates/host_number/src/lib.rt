@@ -1,5 +1,5 @@
-// The window of frame numbers in lent words: whether a number is new, and what stands before the table once its frame is
-// accepted. Assumes nothing. It promises specs/Numbering.antt.
+// The window of frame numbers in lent words: whether a number is new, and what stands before the table once its frame
+// is accepted. Assumes nothing. It promises specs/Numbering.antt.
 use bitmap::word64;
 use host_words::Head;
 use seq::FrameNo;
@@ -26,7 +26,8 @@ pub fn is_new(marks: u64, d: u16) -> bool
 // window is the one that the frame leaves. Answers the run of numbers that the frame acknowledges.
 pub fn accept(words: &mut [u64], number: FrameNo, lowest: TransNo, closed: u32) -> u8
     ensures { λ r. ⌜ r ≡ acceptedRun (headPart (pairOf (now (words .entry)))) (number .0) ⌝ }
-    ensures { λ _. ⌜ now (words .exit) ≡ withHead (now (words .entry)) (acceptedHead (headPart (pairOf (now (words .entry)))) (number .0) (lowest .0) closed) ⌝ }
+    ensures { λ _. ⌜ now (words .exit) ≡ withHead (now (words .entry))
+        (acceptedHead (headPart (pairOf (now (words .entry)))) (number .0) (lowest .0) closed) ⌝ }
     ensures { λ _. ⌜ Accepts (now (words .entry)) (now (words .exit)) (number .0) (lowest .0) closed ⌝ }
 {
     let next = host_words::next(words);

@@ -18,7 +18,8 @@ pub record Filling (w : List ℕ) (table : List Open) (i : ℕ) : Type 0 where
   pub long : length table ≡ 32
   pub filled : (k : ℕ) → k < i → getD table k free ≡ entryOf w k
 
-pub filling-turn : {w : List ℕ} {table : List Open} {i : ℕ} → Filling w table i → (o : Open) → i < 32 → o ≡ entryOf w (i % 32)
+pub filling-turn : {w : List ℕ} {table : List Open} {i : ℕ} → Filling w table i → (o : Open) → i < 32
+    → o ≡ entryOf w (i % 32)
     → Filling w (set table i o) (i + 1)
 filling-turn {w} {table} {i} g o h e =
     record {
@@ -49,7 +50,8 @@ pub storing-start : (w : List ℕ) (table : List Open) → Storing w w table 0
 storing-start w table =
     record { most = omega arith; same = refl; head = λ e. refl; stored = λ e k lt. absurd (omega (arith, lt)) }
 
-pub storing-turn : {w₀ w : List ℕ} {table : List Open} {i : ℕ} → Storing w₀ w table i → (left : List ℕ) (o : Open) → i < 32
+pub storing-turn : {w₀ w : List ℕ} {table : List Open} {i : ℕ} → Storing w₀ w table i → (left : List ℕ) (o : Open)
+    → i < 32
     → length left ≡ length w → o ≡ getD table i free → HoldsEntry w left (i % 32) o → Storing w₀ left table (i + 1)
 storing-turn {w₀} {w} {table} {i} g left o h l o-is p =
     record {
@@ -62,12 +64,14 @@ storing-turn {w₀} {w} {table} {i} g left o h l o-is p =
     here : i % 32 ≡ i
     here = omega (arith, h)
 
-    go : length w₀ ≡ 67 → (k : ℕ) → Dec (i ≤ k) → k < i + 1 → getD (set (pairOf w .table) (i % 32) o) k free ≡ getD table k free
+    go : length w₀ ≡ 67 → (k : ℕ) → Dec (i ≤ k) → k < i + 1
+        → getD (set (pairOf w .table) (i % 32) o) k free ≡ getD table k free
     go e k (yes m) lt =
         let same : k ≡ i = omega (arith, m, lt) in
         rw (here, same) (getD-set-same (pairOf w .table) i o free (omega (arith, h, length-table w)) ∙ o-is)
     go e k (no m) lt =
-        getD-set-other (pairOf w .table) (i % 32) k o free (λ q. m (omega (arith, q, here))) ∙ g .stored e k (omega (arith, m))
+        getD-set-other (pairOf w .table) (i % 32) k o free (λ q. m (omega (arith, q, here)))
+        ∙ g .stored e k (omega (arith, m))
 
 pub storing-done : {w₀ w : List ℕ} {table : List Open} {i : ℕ} → Storing w₀ w table i → 32 ≤ i → length table ≡ 32
     → length w₀ ≡ 67 → pairOf w ≡ joined (headPart (pairOf w₀)) table

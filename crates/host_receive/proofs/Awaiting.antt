@@ -122,7 +122,8 @@ module _ (p : Pair) (f memory : List ℕ) (num d : ℕ) (w : Awaited p f num d) 
   awaited-some ms e =
       let q = awaited-read ∙ ap orPassesEnd e in (
         ap refusalOf q,
-        received-good p f memory ms q (λ z. omega (arith, z, w .flag)) ∙ ap (λ (n : ℕ). byNumber p memory n ms) (sym (w .num-is)),
+        received-good p f memory ms q (λ z. omega (arith, z, w .flag))
+            ∙ ap (λ (n : ℕ). byNumber p memory n ms) (sym (w .num-is)),
       )
 
   -- behind, ahead or accepted already: the layout's refusal, or by where the number lies; nothing is touched
@@ -148,7 +149,8 @@ module _ (p : Pair) (f memory : List ℕ) (num d : ℕ) (w : Awaited p f num d) 
           settled (repeated (runFrom p num)) (awaited-some ms e .1 ∙ by-number-behind p memory num d ms (w .d-is) h)
           (rw (awaited-some ms e .0, le-leb 32768 d h) (ap repeated (at-behind p num d (w .d-is) h)))
       lies ms e (no h) (yes k) =
-          settled (refused 6 0) (awaited-some ms e .1 ∙ by-number-ahead p memory num d ms (w .d-is) k (omega (arith, h)))
+          settled (refused 6 0)
+          (awaited-some ms e .1 ∙ by-number-ahead p memory num d ms (w .d-is) k (omega (arith, h)))
           (rw (awaited-some ms e .0, lt-leb 32768 d (omega (arith, h)), le-ltb d 64 k))
       lies ms e (no h) (no k) =
           let m = ⊎-elim (λ far. absurd (omega (arith, far, k))) (λ m. m) old in
@@ -222,7 +224,8 @@ module _ (p : Pair) (f memory : List ℕ) (num d : ℕ) (w : Awaited p f num d) 
       new-refused ne = rw v-is (go (messagesFrom (length f) f 10) refl)
         where
           go : (r : Option (List Message)) → messagesFrom (length f) f 10 ≡ r
-              → receiveOf p f memory ≡ unchanged p memory (refusedWith (p .own) (p .peer) f (found .refusal) (found .messages))
+              → receiveOf p f memory
+              ≡ unchanged p memory (refusedWith (p .own) (p .peer) f (found .refusal) (found .messages))
           go none e =
               let c = awaited-cut e in
               rw (c .0) (c .1)
@@ -232,5 +235,6 @@ module _ (p : Pair) (f memory : List ℕ) (num d : ℕ) (w : Awaited p f num d) 
       new-taken ok = rw v-is (go (messagesFrom (length f) f 10) refl)
         where
           go : (r : Option (List Message)) → messagesFrom (length f) f 10 ≡ r → receiveOf p f memory ≡ effected found
-          go none e = absurd (validated-cut f (length memory) (length f) 10 (noneYet (transactionsOf p)) e (rw v-is at ok))
+          go none e =
+              absurd (validated-cut f (length memory) (length f) 10 (noneYet (transactionsOf p)) e (rw v-is at ok))
           go (some ms) e = taken-new ms e (rw v-is at ok)

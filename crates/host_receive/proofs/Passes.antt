@@ -66,7 +66,8 @@ taken-in : (g : Progress) (memory : List ℕ) (m : Message) (v : Verdict)
 unfolding takeIn onward after
 taken-in g memory m v = refl
 
-module _ (size : ℕ) (g : Progress) (memory : List ℕ) (m : Message) (ms : List Message) (same : length memory ≡ size) where
+module _ (size : ℕ) (g : Progress) (memory : List ℕ) (m : Message) (ms : List Message)
+    (same : length memory ≡ size) where
   abbrev v : Verdict
   v = verdict (g .transactions) size m
 
@@ -94,7 +95,8 @@ tallyOfBoth r a = record {
 }
 
 -- what validating its messages from an offset on comes to: r
-pub record Taken (f : List ℕ) (at : ℕ) (g : Progress) (memory : List ℕ) (ms : List Message) (r : Validated) : Type 0 where
+pub record Taken (f : List ℕ) (at : ℕ) (g : Progress) (memory : List ℕ) (ms : List Message)
+    (r : Validated) : Type 0 where
   pub counted : r .messages ≡ g .messages + length ms
   pub is : takeAll (tallyBy g memory) (g .messages) ms
       ≡ fine (tallyOfBoth r (appliedFrom (length ms) f at (g .transactions .table) memory))
@@ -161,7 +163,8 @@ taken-of f size n at g memory ms same h r ih =
         absurd (ne (sym (ap (λ (r : Validated). r .refusal) (validated-stops f size at g n (h .inside) ne)) ∙ r))
     go true y false z =
         let ok = eqb-true (w .refusal) 0 y in
-        rw (validated-last f size at g n (h .inside) ok z, h .last z) (taken-last f size at g memory same (h .inside) ok)
+        rw (validated-last f size at g n (h .inside) ok z, h .last z)
+        (taken-last f size at g memory same (h .inside) ok)
     go true y true z =
         let ok = eqb-true (w .refusal) 0 y in
         let e = validated-more f size at g n (h .inside) ok z in
@@ -170,7 +173,8 @@ taken-of f size n at g memory ms same h r ih =
         (length-effect memory (messageAt f at) (w .done) ∙ same) (h .more z)
         (sym (ap (λ (r : Validated). r .refusal) e) ∙ r)))
 
-pub taken-all : (f : List ℕ) (size turns at : ℕ) (g : Progress) (memory : List ℕ) (ms : List Message) → length memory ≡ size
+pub taken-all : (f : List ℕ) (size turns at : ℕ) (g : Progress) (memory : List ℕ) (ms : List Message)
+    → length memory ≡ size
     → messagesFrom turns f at ≡ some ms → validatedFrom turns f size at g .refusal ≡ 0
     → Taken f at g memory ms (validatedFrom turns f size at g)
 taken-all f size zero at g memory ms same e r = absurd (unread f at ms e)
@@ -245,7 +249,8 @@ cut-of f size n at g e ih = past (decLe (dataEnd f at) (length f))
         let z : _≡_ {A = ℕ} 0 1 = cc in
         absurd (omega arith)
 
-    go : dataEnd f at ≤ length f → (a : Bool) → eqb (w .refusal) 0 ≡ a → (b : Bool) → follows (field f (at + 23) 1) ≡ b → Refused
+    go : dataEnd f at ≤ length f → (a : Bool) → eqb (w .refusal) 0 ≡ a → (b : Bool) → follows (field f (at + 23) 1) ≡ b
+        → Refused
     go inside false y b z =
         let no = eqb-false (w .refusal) 0 y in
         λ q. no (sym (ap (λ (r : Validated). r .refusal) (validated-stops f size at g n inside no)) ∙ q)

@@ -9,7 +9,8 @@ ghost use Rattle.host_receive.specs.Receiving.{Receives, TakesFrame};
 // A frame with messages, in the window and not accepted yet: its messages are validated, and where none is refused all
 // take effect. The first pass finds a bad layout by itself.
 fn take_in(words: &mut [u64], f: &[u8], memory: &mut [u8], number: FrameNo) -> Answer
-    ensures { λ r. ⌜ TakesFrame (now (words .entry)) (now (f .entry)) (now (memory .entry)) (number .0) (now (words .exit)) (now (memory .exit)) r ⌝ }
+    ensures { λ r. ⌜ TakesFrame (now (words .entry)) (now (f .entry)) (now (memory .entry)) (number .0)
+        (now (words .exit)) (now (memory .exit)) r ⌝ }
 {
     let found = host_validate::validate(words, f, memory.len());
     if found.refusal != 0 {
@@ -37,7 +38,8 @@ fn take_in(words: &mut [u64], f: &[u8], memory: &mut [u8], number: FrameNo) -> A
 
 // Receives a frame in 67 words. They and the memory change only where the frame is accepted.
 pub fn receive_in_place(words: &mut [u64], f: &[u8], memory: &mut [u8]) -> Answer
-    ensures { λ r. ⌜ Receives (now (words .entry)) (now (f .entry)) (now (memory .entry)) (now (words .exit)) (now (memory .exit)) r ⌝ }
+    ensures { λ r. ⌜ Receives (now (words .entry)) (now (f .entry)) (now (memory .entry)) (now (words .exit))
+        (now (memory .exit)) r ⌝ }
 {
     if words.len() != host_words::WORDS {
         return host_refuse::refusing(host_words::OTHER_LENGTH, 0);

@@ -1,5 +1,5 @@
--- What a frame is answered that is not taken in. Nothing of this needs to be believed: host_receive/proofs/Awaiting.antt
--- shows that it is what receiveOf of host/specs/Host.antt answers.
+-- What a frame is answered that is not taken in. Nothing of this needs to be believed:
+-- host_receive/proofs/Awaiting.antt shows that it is what receiveOf of host/specs/Host.antt answers.
 use Prim.Native.Nat.{ℕ}
 use mathlib.Core.Bool.{cond}
 use mathlib.Core.List.{List}

@@ -1,6 +1,6 @@
 // The run of frame numbers that an answer acknowledges, counted from the marks and from how far its first number is
-// past the next one. Assumes nothing. It promises specs/Counting.antt, which proofs/Counting.antt shows to be runFrom of
-// host/specs/Host.antt.
+// past the next one. Assumes nothing. It promises specs/Counting.antt, which proofs/Counting.antt shows to be runFrom
+// of host/specs/Host.antt.
 use bitmap::word64;
 ghost use mathlib.Core.Path.{_≡_};
 ghost use Prim.Native.Nat.{min};

@@ -94,7 +94,8 @@ holds-entry w s o h a b c d l = entry-set w s o l h (open-same o a b c d)
 -- ---- what stands before the table set
 
 module _ (w : List ℕ) (h : Head) (l : length w ≡ 67) (own-fits : h .own < 65536) (peer-fits : h .peer < 65536)
-    (next-fits : h .next .0 < 65536) (lowest-fits : h .lowest .0 < 4294967296) (closed-fits : h .closed < 4294967296) where
+    (next-fits : h .next .0 < 65536) (lowest-fits : h .lowest .0 < 4294967296)
+    (closed-fits : h .closed < 4294967296) where
   abbrev ids : ℕ
   ids = h .own + h .peer * 65536 + h .next .0 * 4294967296
 

@@ -39,7 +39,8 @@ module _ (lowest closed : ℕ) (h : MessageHeader) (len size : ℕ) where
   abbrev its : Open → Verdict
   its o = verdictOf lowest closed o h len size
 
-  pub verdict-alike : (o p : Open) → Alike o p → (its o .refusal ≡ its p .refusal) × (its o .refusal ≡ 0 → its o ≡ its p)
+  pub verdict-alike : (o p : Open) → Alike o p
+      → (its o .refusal ≡ its p .refusal) × (its o .refusal ≡ 0 → its o ≡ its p)
   unfolding verdictOf refusing
   verdict-alike o p (inl e) = (ap (λ (x : Open). its x .refusal) e, λ z. ap its e)
   verdict-alike o p (inr (a, b)) = go (eqb r 0) refl

@@ -39,7 +39,8 @@ overlaid-start w kept =
     }
 
 -- a marked entry is kept: then the current one is the one that the code reads
-pub overlaid-current : {w kept : List ℕ} {changed : ℕ} {table : List Open} → Overlaid w kept changed table → (s : ℕ) → s < 32
+pub overlaid-current : {w kept : List ℕ} {changed : ℕ} {table : List Open} → Overlaid w kept changed table → (s : ℕ)
+    → s < 32
     → (mark changed s ≡ true → length kept ≡ 67) → Alike (getD table s free) (current w kept changed s)
 overlaid-current {w} {kept} {changed} {table} g s h found = go (mark changed s) refl
   where
@@ -122,7 +123,8 @@ module _ {w kept : List ℕ} {changed : ℕ} {table : List Open} (g : Overlaid w
           sym (entry-at left k l) ∙ ap (λ (t : List Open). getD t k free) (table-is n)
           ∙ getD-set-other (pairOf kept .table) s k (v .entry) free ne ∙ entry-at kept k l
 
-  pub overlaid-turn : (left : List ℕ) (r : ℕ) → length left ≡ length kept → Notes kept changed s v left r → Overlaid w left r new
+  pub overlaid-turn : (left : List ℕ) (r : ℕ) → length left ≡ length kept → Notes kept changed s v left r
+      → Overlaid w left r new
   overlaid-turn left r same (p, q) = rw q (moves left p same)
 
   -- nothing is kept

@@ -39,7 +39,8 @@ use Rattle.host_validate.proofs.Overlay.{Overlaid, overlaid-start, over
 
 -- ---- a frame too long to be read
 
-pub validated-long : (f : List ℕ) (t : Transactions) (size : ℕ) → frameMost < length f → refusedAt 2 0 ≡ validatedOf f t size
+pub validated-long : (f : List ℕ) (t : Transactions) (size : ℕ) → frameMost < length f
+    → refusedAt 2 0 ≡ validatedOf f t size
 unfolding validatedOf
 validated-long f t size h = rw (lt-ltb frameMost (length f) h)
 
@@ -54,7 +55,8 @@ module _ (f : List ℕ) (size at : ℕ) (g : Progress) where
   abbrev pub its-verdict : Verdict
   its-verdict = verdict (g .transactions) size (messageAt f at)
 
-  pub validated-past : (turns : ℕ) → length f < dataEnd f at → validatedFrom turns f size at g ≡ refusedAt 5 (g .messages)
+  pub validated-past : (turns : ℕ) → length f < dataEnd f at
+      → validatedFrom turns f size at g ≡ refusedAt 5 (g .messages)
   unfolding validatedFrom
   validated-past zero h = refl
   validated-past (suc n) h = rw (lt-leb (dataEnd f at) (length f) h)
@@ -78,7 +80,8 @@ module _ (f : List ℕ) (size at : ℕ) (g : Progress) where
 
 -- ---- the header and the length that were read are the message's
 
-module _ {f : List ℕ} {at : ℕ} {h : MessageHeader} {len : ℕ} {more : Bool} {next : ℕ} (x : IsWhole f at h len more next) where
+module _ {f : List ℕ} {at : ℕ} {h : MessageHeader} {len : ℕ} {more : Bool} {next : ℕ}
+    (x : IsWhole f at h len more next) where
   head-is : h ≡ headOf (messageAt f at)
   unfolding headOf messageAt headAt
   head-is = x .header-is
@@ -88,7 +91,8 @@ module _ {f : List ℕ} {at : ℕ} {h : MessageHeader} {len : ℕ} {more : Bool}
   number-is = ap (λ (h : MessageHeader). h .trans .0 % 32) head-is
 
   verdict-is : (t : Transactions) (size : ℕ)
-      → verdictOf (t .lowest) (t .closed) (getD (t .table) (h .trans .0 % 32) free) h len size ≡ verdict t size (messageAt f at)
+      → verdictOf (t .lowest) (t .closed) (getD (t .table) (h .trans .0 % 32) free) h len size
+      ≡ verdict t size (messageAt f at)
   unfolding verdict headOf
   verdict-is t size = rw (head-is, ← x .bytes-are)
 
@@ -193,7 +197,8 @@ module _ {w kept f : List ℕ} {size lowest closed changed messages bytes comple
     refusal-is =
         ap (λ (v : Verdict). v .refusal) v-is ∙ sym (same .0) ∙ ap (λ (v : Verdict). v .refusal) its-is
 
-    pub walking-stops : v .refusal ≢ 0 → refusedAt (v .refusal) messages ≡ validatedOf f (transactionsOf (pairOf w)) size
+    pub walking-stops : v .refusal ≢ 0
+        → refusedAt (v .refusal) messages ≡ validatedOf f (transactionsOf (pairOf w)) size
     walking-stops ne =
         ap (λ (n : ℕ). refusedAt n messages) refusal-is
         ∙ sym (one-turn ∙ validated-stops f size at now-at (left .0) (x .inside-frame) (λ z. ne (refusal-is ∙ z)))
@@ -221,7 +226,8 @@ module _ {w kept f : List ℕ} {size lowest closed changed messages bytes comple
           ∙ validated-last f size at now-at (left .0) (x .inside-frame) (sym refusal-is ∙ ok) (sym (x .more-is) ∙ z))
 
       walked : (kept′ : List ℕ) (r : ℕ) → more ≡ true → Overlaid w kept′ r (set (g .table) s (v .entry))
-          → Walking w kept′ f size (v .lowest .0) (v .closed) r (messages + 1) (bytes + len) (completed + cond (v .done) 1 0) next
+          → Walking w kept′ f size (v .lowest .0) (v .closed) r (messages + 1) (bytes + len)
+          (completed + cond (v .done) 1 0) next
       walked kept′ r z overlaid =
           record {
             table = set (g .table) s (v .entry);
@@ -230,19 +236,23 @@ module _ {w kept f : List ℕ} {size lowest closed changed messages bytes comple
             enough = omega (arith, g .enough, x .next-beyond, left .1);
             is =
                 one-turn
-                ∙ validated-more f size at now-at (left .0) (x .inside-frame) (sym refusal-is ∙ ok) (sym (x .more-is) ∙ z)
+                ∙ validated-more f size at now-at (left .0) (x .inside-frame) (sym refusal-is ∙ ok)
+                (sym (x .more-is) ∙ z)
                 ∙ rw (← on-is, ← x .next-is);
           }
 
       -- its entry is kept
-      pub walking-on : (kept′ : List ℕ) (r : ℕ) → more ≡ true → length kept′ ≡ length kept → Notes kept changed s v kept′ r
-          → Walking w kept′ f size (v .lowest .0) (v .closed) r (messages + 1) (bytes + len) (completed + cond (v .done) 1 0) next
+      pub walking-on : (kept′ : List ℕ) (r : ℕ) → more ≡ true → length kept′ ≡ length kept
+          → Notes kept changed s v kept′ r
+          → Walking w kept′ f size (v .lowest .0) (v .closed) r (messages + 1) (bytes + len)
+          (completed + cond (v .done) 1 0) next
       walking-on kept′ r z long n =
           walked kept′ r z (overlaid-turn (g .overlaid) s (omega arith) o v o-is kept′ r long n)
 
       -- nothing is kept
       pub walking-apart : (r : ℕ) → more ≡ true → length kept ≢ 67 → Marks changed s o (v .done) r
-          → Walking w kept f size (v .lowest .0) (v .closed) r (messages + 1) (bytes + len) (completed + cond (v .done) 1 0) next
+          → Walking w kept f size (v .lowest .0) (v .closed) r (messages + 1) (bytes + len)
+          (completed + cond (v .done) 1 0) next
       walking-apart r z none m =
           walked kept r z (apart-turn (g .overlaid) s (omega arith) o v o-is r none
           (λ d. ap (λ (v : Verdict). v .entry) v-is

@@ -1,5 +1,5 @@
-// The verdict on one message at the host: refused, or whether it completes its transaction, and the state that it leaves.
-// Assumes nothing of the state that it is held against, which may be one that no run reaches. It promises
+// The verdict on one message at the host: refused, or whether it completes its transaction, and the state that it
+// leaves. Assumes nothing of the state that it is held against, which may be one that no run reaches. It promises
 // host/specs/Transactions.antt, fills, leftIn and verdictOf.
 use bitmap::word32;
 use host::Open;

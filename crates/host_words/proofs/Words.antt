@@ -29,7 +29,8 @@ entry-in (suc n) k w (suc j) h =
     rw e at (entry-in n (suc k) w j (omega (arith, h)))
 
 -- a list of entries is known entry by entry
-all-entries : (n k : ℕ) (w : List ℕ) (l : List Open) → length l ≡ n → ((j : ℕ) → j < n → getD l j free ≡ entryOf w (k + j))
+all-entries : (n k : ℕ) (w : List ℕ) (l : List Open) → length l ≡ n
+    → ((j : ℕ) → j < n → getD l j free ≡ entryOf w (k + j))
     → l ≡ entriesFrom n k w
 unfolding entriesFrom
 all-entries zero k w [] e h = refl

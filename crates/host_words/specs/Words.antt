@@ -43,7 +43,8 @@ pairOf w = record {
 
 -- A pair in two parts: what stands before the table, and the table.
 abbrev pub headPart : Pair → Head
-headPart p = record { own = p .own; peer = p .peer; next = p .next; marks = p .marks; lowest = p .lowest; closed = p .closed }
+headPart p =
+    record { own = p .own; peer = p .peer; next = p .next; marks = p .marks; lowest = p .lowest; closed = p .closed }
 
 abbrev pub joined : Head → List Open → Pair
 joined h table = record {

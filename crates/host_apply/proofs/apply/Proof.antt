@@ -40,8 +40,10 @@ same-length-2 c = c .before .before .before .before .loop .inv .same-memory
 
 returns-2 : tie.Need-returns-2 Inv-loop μ-loop
 returns-2 c =
-    let g = c .before .before .before .before .loop .inv in
-    (λ l. applying-past g (sym (c .before .before .message-at .ensures) ∙ c .enum-told .given .1), λ n. absurd (n (g .long)))
+    let g = c .before .before .before .before .loop .inv in (
+      λ l. applying-past g (sym (c .before .before .message-at .ensures) ∙ c .enum-told .given .1),
+      λ n. absurd (n (g .long)),
+    )
 
 enum-known-found : tie.Need-enum-known-found Inv-loop μ-loop
 enum-known-found c = search needs
@@ -80,7 +82,8 @@ same-length-4 : tie.Need-same-length-4 Inv-loop μ-loop
 same-length-4 c = c .before .loop .inv .same-memory
 
 returns-3 : tie.Need-returns-3 Inv-loop μ-loop
-returns-3 c = (λ l. applying-done (c .before .loop .inv) (c .loop-test .left), λ n. absurd (n (c .before .loop .inv .long)))
+returns-3 c =
+    (λ l. applying-done (c .before .loop .inv) (c .loop-test .left), λ n. absurd (n (c .before .loop .inv .long)))
 
 pub apply-spec : {M : Type 1} → statement M
 apply-spec =

@@ -37,7 +37,11 @@ unfolding effect carrying
 returns c =
     let completed = c .before .before .before .before .before .before in
     c .before .before .write2 .ensures .1
-    ∙ rw (completed .little4 .ensures, completed .before .before .before .before .write .ensures .1, completed .before .if1 .taken)
+    ∙ rw (
+      completed .little4 .ensures,
+      completed .before .before .before .before .write .ensures .1,
+      completed .before .if1 .taken,
+    )
 
 same-length-2 : tie.Need-same-length-2
 same-length-2 c = search needs

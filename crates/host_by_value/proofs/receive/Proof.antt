@@ -34,7 +34,8 @@ same-length c = search needs
 returns : tie.Need-returns
 returns c =
     let packed = c .before .before .before .before .before .before .before .before .before .pack in
-    let r = rw (packed .ensures .0 refl) at (c .before .before .before .before .before .receive-in-place .ensures .0 (packed .kept .0)) in
+    let r = rw (packed .ensures .0 refl) at
+    (c .before .before .before .before .before .receive-in-place .ensures .0 (packed .kept .0)) in
     (rw (c .unpack .ensures, r .0, r .2), r .1)
 
 pub receive-spec : {M : Type 1} → statement M

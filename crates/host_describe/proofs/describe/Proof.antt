@@ -49,7 +49,8 @@ loop-less : tie.Need-loop-less Inv-loop μ-loop
 loop-less c = omega (arith, c .before .before .before .loop-test .taken)
 
 loop-again : tie.Need-loop-again Inv-loop μ-loop
-loop-again c = storing-turn (c .before .before .before .before .loop .inv) _ _ (c .before .before .before .loop-test .taken) (c .before .put-open .ensures)
+loop-again c = storing-turn (c .before .before .before .before .loop .inv) _ _
+    (c .before .before .before .loop-test .taken) (c .before .put-open .ensures)
 
 returns : tie.Need-returns Inv-loop μ-loop
 returns c = storing-done (c .before .loop .inv) (c .loop-test .left)

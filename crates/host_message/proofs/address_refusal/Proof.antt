@@ -15,7 +15,8 @@ data-out : (size : ℕ) (h : MessageHeader) (len : ℕ) → size < h .«data_add
 unfolding addressRefusal
 data-out size h len l = rw (lt-ltb _ _ l)
 
-completion-out : (size : ℕ) (h : MessageHeader) (len : ℕ) → h .«data_address» + len ≤ size → size < h .«completion_address» + 4
+completion-out : (size : ℕ) (h : MessageHeader) (len : ℕ) → h .«data_address» + len ≤ size
+    → size < h .«completion_address» + 4
     → 12 ≡ addressRefusal size h len
 unfolding addressRefusal
 completion-out size h len i l = rw (le-ltb _ _ i, lt-ltb _ _ l)

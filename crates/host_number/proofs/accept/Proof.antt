@@ -74,7 +74,12 @@ returns c =
     let read = marked .before .before .before in
     let stored = c .before .before .put-head in (
       counted .before .run-within .ensures
-          ∙ rw (marked .with-mark .ensures, read .distance .ensures, marked .before .marks .ensures, read .before .next .ensures),
+          ∙ rw (
+            marked .with-mark .ensures,
+            read .distance .ensures,
+            marked .before .marks .ensures,
+            read .before .next .ensures,
+          ),
       (
         stored .ensures .0 ∙ rw (
           moved .shifted .ensures,

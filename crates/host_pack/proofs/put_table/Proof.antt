@@ -41,7 +41,8 @@ loop-less c = omega arith
 loop-again : tie.Need-loop-again Inv-loop μ-loop
 loop-again c =
     storing-turn (c .before .before .before .before .before .before .loop .inv) _ _
-    (c .before .before .before .before .before .loop-test .taken) (search needs) refl (c .before .before .put-entry .ensures .1)
+    (c .before .before .before .before .before .loop-test .taken) (search needs) refl
+    (c .before .before .put-entry .ensures .1)
 
 same-length : tie.Need-same-length Inv-loop μ-loop
 same-length c = c .before .loop .inv .same

@@ -48,7 +48,9 @@ returns-2 : tie.Need-returns-2
 returns-2 c =
     let sized = c .before .before .before .before .before .before .before in
     let a = sized .before .before .before .before .args in
-    let e = refused-heading (pairOf (a .words .now)) (a .f .now) _ _ _ (c .before .before .before .before .before .own .ensures) (c .before .before .before .peer .ensures)
+    let named = c .before .before .before in
+    let e = refused-heading (pairOf (a .words .now)) (a .f .now) _ _ _
+    (named .before .before .own .ensures) (named .peer .ensures)
     (c .before .before .heading-refusal .ensures) (a .memory .now) (c .before .if2 .taken) in
     let s = stays _ _ _ _ e in
     (λ l. (s .0, s .1, c .refusing2 .ensures ∙ s .2), λ n. absurd (n (sized .if1 .left)))
@@ -66,9 +68,11 @@ returns-3 c =
     let sized = headed .before .before .before .before .before .before in
     let a = sized .before .before .before .before .args in
     let p = pairOf (a .words .now) in
-    let h = framed p (a .f .now) _ _ _ (headed .before .before .before .before .own .ensures) (headed .before .before .peer .ensures)
+    let named = headed .before .before in
+    let h = framed p (a .f .now) _ _ _ (named .before .before .own .ensures) (named .peer .ensures)
     (headed .before .heading-refusal .ensures) (headed .if2 .left) in
-    let s = stays _ _ _ _ (none-there p (a .f .now) (a .memory .now) h _ (c .before .before .frame-header .ensures) (c .if3 .taken)) in
+    let f-is = c .before .before .frame-header .ensures in
+    let s = stays _ _ _ _ (none-there p (a .f .now) (a .memory .now) h _ f-is (c .if3 .taken)) in
     (λ l. s, λ n. absurd (n (sized .if1 .left)))
 
 next-requires : tie.Need-next-requires
@@ -96,7 +100,8 @@ returns-4 c =
     let sized = headed .before .before .before .before .before .before in
     let a = sized .before .before .before .before .args in
     let p = pairOf (a .words .now) in
-    let h = framed p (a .f .now) _ _ _ (headed .before .before .before .before .own .ensures) (headed .before .before .peer .ensures)
+    let named = headed .before .before in
+    let h = framed p (a .f .now) _ _ _ (named .before .before .own .ensures) (named .peer .ensures)
     (headed .before .heading-refusal .ensures) (headed .if2 .left) in
     let away = c .before .before .before .before .before in
     let w = awaited p (a .f .now) h _ (flagged .before .before .frame-header .ensures) (flagged .if3 .left) _
@@ -105,7 +110,13 @@ returns-4 c =
     let new-is = rw (c .before .before .before .marks .ensures) at (c .before .before .is-new .ensures) in
     let old = not-new (p .marks) _ (sym new-is ∙ not-true _ (c .before .if4 .taken)) in
     let s = stays _ _ _ _ (answered-by-number p (a .f .now) (a .memory .now) _ _ w old) in (
-      λ l. (s .0, s .1, c .answer-by-number .ensures ∙ rw (headed .before .before .before .before .own .ensures, headed .before .before .peer .ensures, c .before .before .before .marks .ensures) (s .2)),
+      λ l. (
+        s .0,
+        s .1,
+        c .answer-by-number .ensures
+            ∙ rw (named .before .before .own .ensures, named .peer .ensures, c .before .before .before .marks .ensures)
+            (s .2),
+      ),
       λ n. absurd (n (sized .if1 .left)),
     )
 
@@ -126,15 +137,18 @@ returns-5 c =
     let sized = headed .before .before .before .before .before .before in
     let a = sized .before .before .before .before .args in
     let p = pairOf (a .words .now) in
-    let h = framed p (a .f .now) _ _ _ (headed .before .before .before .before .own .ensures) (headed .before .before .peer .ensures)
+    let named = headed .before .before in
+    let h = framed p (a .f .now) _ _ _ (named .before .before .own .ensures) (named .peer .ensures)
     (headed .before .heading-refusal .ensures) (headed .if2 .left) in
     let away = new .before .before .before .before in
     let w = awaited p (a .f .now) h _ (flagged .before .before .frame-header .ensures) (flagged .if3 .left) _
     (rw (away .before .next .ensures) at (away .distance .ensures)) (next-lt (a .words .now))
     (rw (new .before .before .marks .ensures) at (new .before .before .marks .ok)) in
     let new-is = rw (new .before .before .marks .ensures) at (new .before .is-new .ensures) in
-    let lies = new-in (p .marks) _ (sym new-is ∙ not-false _ (new .if4 .left)) in
-    (λ l. c .before .before .before .before .take-in .ensures _ w (lies .0) (lies .1) l, λ n. absurd (n (sized .if1 .left)))
+    let lies = new-in (p .marks) _ (sym new-is ∙ not-false _ (new .if4 .left)) in (
+      λ l. c .before .before .before .before .take-in .ensures _ w (lies .0) (lies .1) l,
+      λ n. absurd (n (sized .if1 .left)),
+    )
 
 pub receive-in-place-spec : {M : Type 1} → statement M
 receive-in-place-spec =

@@ -36,8 +36,8 @@ returns c =
     λ d w new clear l.
     let stopped = c .before .before .before .before .before in
     let a = stopped .before .before .before .before .before .before .before .args in
-    let e = new-refused (pairOf (a .words .now)) (a .f .now) (a .memory .now) _ d w new clear _ (stopped .before .before .validate .ensures)
-    (stopped .if1 .taken) in
+    let e = new-refused (pairOf (a .words .now)) (a .f .now) (a .memory .now) _ d w new clear _
+    (stopped .before .before .validate .ensures) (stopped .if1 .taken) in
     let s = stays _ _ _ _ e in
     (s .0, s .1, c .refuse .ensures ∙ rw (c .before .peer .ensures, c .before .before .before .own .ensures) (s .2))
 

@@ -68,7 +68,8 @@ returns c =
     let e : c .before .before .put2 .last .0 ≡ withEntry (a .w .now) (a .number % 32) (a .o) =
     c .before .before .put2 .ensures ∙ rw (first .put .ensures) in (
       e,
-      λ l. rw e (holds-entry (a .w .now) (a .number % 32) (a .o) (omega arith) (search needs) (search needs) (search needs)
+      λ l. rw e
+          (holds-entry (a .w .now) (a .number % 32) (a .o) (omega arith) (search needs) (search needs) (search needs)
           (search needs) l),
     )
 

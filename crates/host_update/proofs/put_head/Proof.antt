@@ -66,7 +66,8 @@ returns c =
     c .before .before .put3 .ensures ∙ rw (two .put2 .ensures, one .put .ensures) in
     let g = one .before .before .struct-known5 .given in (
       e,
-      λ l. rw e (holds-head (a .w .now) (a .h) l (omega (arith, g)) (omega (arith, g)) (omega (arith, g)) (omega (arith, g))
+      λ l. rw e
+          (holds-head (a .w .now) (a .h) l (omega (arith, g)) (omega (arith, g)) (omega (arith, g)) (omega (arith, g))
           (omega (arith, g))),
     )
 

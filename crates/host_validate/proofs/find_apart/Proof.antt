@@ -65,7 +65,8 @@ loop-holds c =
     let s = c .before .before in
     let a = s .before .before .before .args in (
       steady-start (a .f .now) (s .if1 .left),
-      rw (c .closed .ensures, c .before .lowest .ensures) (walking-start (a .words .now) [] (a .f .now) (a .size) (s .if1 .left)),
+      rw (c .closed .ensures, c .before .lowest .ensures)
+          (walking-start (a .words .now) [] (a .f .now) (a .size) (s .if1 .left)),
     )
 
 message-at-requires : tie.Need-message-at-requires Inv-loop μ-loop
@@ -79,8 +80,10 @@ refused-at-requires-2 c κs = search needs
 
 returns-2 : tie.Need-returns-2 Inv-loop μ-loop
 returns-2 c =
+    let told = c .before in
     inr (c .refused-at2 .ensures
-    ∙ walking-past (c .before .before .before .before .loop .inv .1) (sym (c .before .before .before .message-at .ensures) ∙ c .before .enum-told .given .1))
+    ∙ walking-past (told .before .before .before .loop .inv .1)
+    (sym (told .before .before .message-at .ensures) ∙ told .enum-told .given .1))
 
 enum-known-found : tie.Need-enum-known-found Inv-loop μ-loop
 enum-known-found c = search needs
@@ -108,7 +111,8 @@ returns-4 c =
     let judged = c .before .before .before in
     let looped = judged .before .before .before .before .before .before .before .before in
     let k = looped .loop .inv in
-    let x = is-whole (sym (judged .before .before .before .before .before .before .before .message-at .ensures) ∙ judged .before .before .before .before .before .found .given .1) in
+    let seen = judged .before .before .before .before .before in
+    let x = is-whole (sym (seen .before .before .message-at .ensures) ∙ seen .found .given .1) in
     let clear = sym (judged .before .before .before .is-marked .ensures) ∙ judged .before .before .if2 .left in
     let w = looped .before .before .before .before .before .before .args .words .now in
     inr (c .refused-at4 .ensures
@@ -132,7 +136,8 @@ returns-5 c =
     let judged = c .before .before .before .before .before .before in
     let looped = judged .before .before .before .before .before .before .before .before in
     let k = looped .loop .inv in
-    let x = is-whole (sym (judged .before .before .before .before .before .before .before .message-at .ensures) ∙ judged .before .before .before .before .before .found .given .1) in
+    let seen = judged .before .before .before .before .before in
+    let x = is-whole (sym (seen .before .before .message-at .ensures) ∙ seen .found .given .1) in
     let clear = sym (judged .before .before .before .is-marked .ensures) ∙ judged .before .before .if2 .left in
     let w = looped .before .before .before .before .before .before .args .words .now in
     let q = rw (c .before .before .counted .ensures) at (c .passed .ensures) in
@@ -143,7 +148,8 @@ returns-5 c =
 loop-less : tie.Need-loop-less Inv-loop μ-loop
 loop-less c =
     let judged = c .before .before .before .before .before in
-    let x = is-whole (sym (judged .before .before .before .before .before .before .before .message-at .ensures) ∙ judged .before .before .before .before .before .found .given .1) in
+    let seen = judged .before .before .before .before .before in
+    let x = is-whole (sym (seen .before .before .message-at .ensures) ∙ seen .found .given .1) in
     omega (arith, judged .before .before .before .before .before .before .before .before .loop .inv .0, x)
 
 loop-again : tie.Need-loop-again Inv-loop μ-loop
@@ -151,13 +157,15 @@ loop-again c =
     let judged = c .before .before .before .before .before in
     let looped = judged .before .before .before .before .before .before .before .before in
     let k = looped .loop .inv in
-    let x = is-whole (sym (judged .before .before .before .before .before .before .before .message-at .ensures) ∙ judged .before .before .before .before .before .found .given .1) in
+    let seen = judged .before .before .before .before .before in
+    let x = is-whole (sym (seen .before .before .message-at .ensures) ∙ seen .found .given .1) in
     let clear = sym (judged .before .before .before .is-marked .ensures) ∙ judged .before .before .if2 .left in
     let w = looped .before .before .before .before .before .before .args .words .now in
     rw (c .before .counted .ensures) (
       steady-turn (k .0) x (judged .judge .result .done),
       walking-apart (k .1) x (need-not w [] _ _ clear) (judged .before .entry .ensures ∙ current-words w [] _ _ clear)
-          (judged .judge .ensures) (c .before .before .before .if3 .left) _ (not-false _ (c .if4 .left)) (λ z. omega (arith, z)) (c .before .before .marked .ensures),
+          (judged .judge .ensures) (c .before .before .before .if3 .left) _ (not-false _ (c .if4 .left))
+          (λ z. omega (arith, z)) (c .before .before .marked .ensures),
     )
 
 pub find-apart-spec : {M : Type 1} → statement M

@@ -63,7 +63,8 @@ loop-holds c =
     let a = s .before .before .before .before .args in (
       steady-start (a .f .now) (s .if1 .left),
       refl,
-      rw (c .closed .ensures, c .before .lowest .ensures) (walking-start (a .words .now) (a .kept .now) (a .f .now) (a .size) (s .if1 .left)),
+      rw (c .closed .ensures, c .before .lowest .ensures)
+          (walking-start (a .words .now) (a .kept .now) (a .f .now) (a .size) (s .if1 .left)),
     )
 
 message-at-requires : tie.Need-message-at-requires Inv-loop μ-loop
@@ -80,8 +81,10 @@ same-length c = c .before .before .before .before .loop .inv .1
 
 returns-2 : tie.Need-returns-2 Inv-loop μ-loop
 returns-2 c =
+    let told = c .before in
     c .refused-at2 .ensures
-    ∙ walking-past (c .before .before .before .before .loop .inv .2) (sym (c .before .before .before .message-at .ensures) ∙ c .before .enum-told .given .1)
+    ∙ walking-past (told .before .before .before .loop .inv .2)
+    (sym (told .before .before .message-at .ensures) ∙ told .enum-told .given .1)
 
 enum-known-found : tie.Need-enum-known-found Inv-loop μ-loop
 enum-known-found c = search needs
@@ -105,7 +108,8 @@ returns-3 c =
     let judged = c .before .before .before in
     let looped = judged .before .before .before .before .before .before .before in
     let k = looped .loop .inv in
-    let x = is-whole (sym (judged .before .before .before .before .before .before .message-at .ensures) ∙ judged .before .before .before .before .found .given .1) in
+    let seen = judged .before .before .before .before in
+    let x = is-whole (sym (seen .before .before .message-at .ensures) ∙ seen .found .given .1) in
     c .refused-at3 .ensures
     ∙ walking-stops (k .2) x (λ m. k .1 ∙ looped .before .before .before .before .before .before .before .pre)
     (judged .before .current-entry .ensures) (judged .judge .ensures) (c .before .if2 .taken)
@@ -125,22 +129,26 @@ passed-requires c κs = search needs
 same-length-3 : tie.Need-same-length-3 Inv-loop μ-loop
 same-length-3 c =
     let judged = c .before .before .before .before .before .before .before .before .before in
-    c .before .before .before .before .before .note .kept .0 ∙ judged .before .before .before .before .before .before .before .loop .inv .1
+    c .before .before .before .before .before .note .kept .0
+    ∙ judged .before .before .before .before .before .before .before .loop .inv .1
 
 returns-4 : tie.Need-returns-4 Inv-loop μ-loop
 returns-4 c =
     let judged = c .before .before .before .before .before .before .before .before .before in
     let looped = judged .before .before .before .before .before .before .before in
     let k = looped .loop .inv in
-    let x = is-whole (sym (judged .before .before .before .before .before .before .message-at .ensures) ∙ judged .before .before .before .before .found .given .1) in
+    let seen = judged .before .before .before .before in
+    let x = is-whole (sym (seen .before .before .message-at .ensures) ∙ seen .found .given .1) in
     let q = rw (c .before .before .counted .ensures) at (c .passed .ensures) in
     q ∙ walking-ends (k .2) x (λ m. k .1 ∙ looped .before .before .before .before .before .before .before .pre)
-    (judged .before .current-entry .ensures) (judged .judge .ensures) (c .before .before .before .before .before .before .before .if2 .left) (not-true _ (c .before .if3 .taken))
+    (judged .before .current-entry .ensures) (judged .judge .ensures)
+    (c .before .before .before .before .before .before .before .if2 .left) (not-true _ (c .before .if3 .taken))
 
 loop-less : tie.Need-loop-less Inv-loop μ-loop
 loop-less c =
     let judged = c .before .before .before .before .before .before .before .before in
-    let x = is-whole (sym (judged .before .before .before .before .before .before .message-at .ensures) ∙ judged .before .before .before .before .found .given .1) in
+    let seen = judged .before .before .before .before in
+    let x = is-whole (sym (seen .before .before .message-at .ensures) ∙ seen .found .given .1) in
     omega (arith, judged .before .before .before .before .before .before .before .loop .inv .0, x)
 
 loop-again : tie.Need-loop-again Inv-loop μ-loop
@@ -148,13 +156,16 @@ loop-again c =
     let judged = c .before .before .before .before .before .before .before .before in
     let looped = judged .before .before .before .before .before .before .before in
     let k = looped .loop .inv in
-    let x = is-whole (sym (judged .before .before .before .before .before .before .message-at .ensures) ∙ judged .before .before .before .before .found .given .1) in
+    let seen = judged .before .before .before .before in
+    let x = is-whole (sym (seen .before .before .message-at .ensures) ∙ seen .found .given .1) in
     let noted = c .before .before .before .before .note in
     rw (c .before .counted .ensures) (
       steady-turn (k .0) x (judged .judge .result .done),
       noted .kept .0 ∙ k .1,
       walking-on (k .2) x (λ m. k .1 ∙ looped .before .before .before .before .before .before .before .pre)
-          (judged .before .current-entry .ensures) (judged .judge .ensures) (c .before .before .before .before .before .before .if2 .left) _ _ (not-false _ (c .if3 .left)) (noted .kept .0) (noted .ensures),
+          (judged .before .current-entry .ensures) (judged .judge .ensures)
+          (c .before .before .before .before .before .before .if2 .left) _ _ (not-false _ (c .if3 .left))
+          (noted .kept .0) (noted .ensures),
     )
 
 pub find-kept-spec : {M : Type 1} → statement M
