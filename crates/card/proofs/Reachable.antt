@@ -96,6 +96,14 @@ use Rattle.card.specs.Reachable.{InOrder, Counted, Orderly, Building, Re
 
 -- ---- the window
 
+-- what a test does not hold of is not marked, inside the word or past it
+not-marked : (n : ℕ) (p : ℕ → Bool) (i : ℕ) → p i ≡ false → mark (marksOf n p) i ≡ false
+not-marked n p i e = go (decLt i n)
+  where
+    go : Dec (i < n) → mark (marksOf n p) i ≡ false
+    go (yes l) = mark-marksOf n p i l ∙ e
+    go (no l) = mark-marksOf-beyond n p i (omega arith)
+
 nothing-at : {A : Type 0} (n k : ℕ) (a : A) → getD (replicate n a) k a ≡ a
 nothing-at zero k a = refl
 nothing-at (suc n) zero a = refl
@@ -173,12 +181,7 @@ module _ (w : SendWindow) (limit start count : ℕ) (k : InOrder w limit) where
 
   marked-past : (i : ℕ) → unreleased w ≤ i → mark marked i ≡ false
   unfolding marked acknowledgedBy
-  marked-past i h = go (decLt i 64)
-    where
-      go : Dec (i < 64) → mark marked i ≡ false
-      go (yes l) =
-          mark-marksOf 64 (acknowledgedBy w start count) i l ∙ rw (le-ltb i (unreleased w) h)
-      go (no l) = mark-marksOf-beyond 64 (acknowledgedBy w start count) i (omega arith)
+  marked-past i h = not-marked 64 (acknowledgedBy w start count) i (rw (le-ltb i (unreleased w) h))
 
   marked-fits : marked < 2 ^ 64
   unfolding marked
@@ -315,12 +318,7 @@ module _ (s : Sendings) (base next : ℕ) (o : Orderly s) where
 
   ended-past : (i : ℕ) → opened s ≤ i → mark ended i ≡ false
   unfolding ended finishedBy
-  ended-past i h = go (decLt i 32)
-    where
-      go : Dec (i < 32) → mark ended i ≡ false
-      go (yes l) =
-          mark-marksOf 32 (finishedBy s base next) i l ∙ rw (le-ltb i (opened s) h)
-      go (no l) = mark-marksOf-beyond 32 (finishedBy s base next) i (omega arith)
+  ended-past i h = not-marked 32 (finishedBy s base next) i (rw (le-ltb i (opened s) h))
 
   ended-fits : ended < 2 ^ 32
   unfolding ended

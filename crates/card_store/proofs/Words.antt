@@ -41,6 +41,13 @@ in-run (v ∷ vs) w i (suc j) h l =
     ap (λ (k : ℕ). getD (sets (set w i v) (suc i) vs) k 0) z
     ∙ in-run vs (set w i v) (suc i) j (omega arith) (omega (arith, length-set w i v))
 
+-- words that are alike past the sizes hold the same table of transactions
+same-table : (w left : List ℕ) → ((k : ℕ) → 21 ≤ k → getD left k 0 ≡ getD w k 0)
+    → listed (sendingIn left) 0 32 ≡ listed (sendingIn w) 0 32
+same-table w left same =
+    listed-same (sendingIn w) (sendingIn left) 32 0
+    (λ k l m. rw (same (21 + 2 * k) (omega arith), same (22 + 2 * k) (omega arith)))
+
 -- ---- the length of a sealed frame
 
 module _ (w : List ℕ) (n v : ℕ) (long : length w ≡ 85) (fits : v < 65536) where
@@ -76,12 +83,9 @@ module _ (w : List ℕ) (n v : ℕ) (long : length w ≡ 85) (fits : v < 65536) 
   resized-card =
       let sizes : listed (sizeIn resized) 0 64 ≡ set (listed (sizeIn w) 0 64) (n % 64) v =
       listed-set (sizeIn w) (sizeIn resized) v 64 (n % 64) (omega arith) size-here (λ k l ne. size-there k ne) in
-      let table : listed (sendingIn resized) 0 32 ≡ listed (sendingIn w) 0 32 =
-      listed-same (sendingIn w) (sendingIn resized) 32 0
-      (λ k l m. rw (entry-there (21 + 2 * k) (omega arith), entry-there (22 + 2 * k) (omega arith))) in
       rw (
         sizes,
-        table,
+        same-table w resized entry-there,
         head-there 0 (omega arith),
         head-there 1 (omega arith),
         head-there 2 (omega arith),
@@ -167,12 +171,9 @@ module _ (w : List ℕ) (h : Head) (ids frames numbers fin : ℕ) (long : length
   headed-card =
       let sizes : listed (sizeIn headed) 0 64 ≡ listed (sizeIn w) 0 64 =
       listed-same (sizeIn w) (sizeIn headed) 64 0 (λ k l m. rw (past-head (5 + k / 4) (omega arith))) in
-      let table : listed (sendingIn headed) 0 32 ≡ listed (sendingIn w) 0 32 =
-      listed-same (sendingIn w) (sendingIn headed) 32 0
-      (λ k l m. rw (past-head (21 + 2 * k) (omega arith), past-head (22 + 2 * k) (omega arith))) in
       rw (
         sizes,
-        table,
+        same-table w headed (λ k l. past-head k (omega arith)),
         at-word 0 (omega arith),
         at-word 1 (omega arith),
         at-word 2 (omega arith),
