@@ -1,6 +1,7 @@
 -- `count_message`: the transaction has a message more, and the frame being built is longer by it.
 -- Assumes nothing.
 use native.Mathlib.Omega.{arith}
+use Prim.Native.Nat.{_+_, _≤_}
 use lib.ListN.{length}
 use Rattle.card_build.proofs.InPlace.{room-for-one, ends-within, counted}
 use borrow.Author.Needs.{needs}
@@ -36,45 +37,31 @@ put-sending-requires c κs = search needs
 header-offset-requires : tie.Need-header-offset-requires
 header-offset-requires c κs = search needs
 
+abbrev after-head : tie.After-header-offset → tie.After-head-of
+after-head c = c .before .before .before .before .before .before .before .before .before
+
+abbrev first-call : tie.After-header-offset → tie.Start
+first-call c = after-head c .before .before .before .before
+
+-- the message being counted ends inside the longest frame
+message-inside : (c : tie.After-header-offset)
+    → c .header-offset .result + 24 + length (first-call c .args .payload .now) ≤ 9000
+message-inside c =
+    let o = first-call c in
+    ends-within (o .args .words .now) _ (after-head c .head-of .ensures) (length (o .args .payload .now)) _
+    (c .header-offset .ensures) (o .pre .1)
+
 add-next : tie.Need-add-next
-add-next c =
-    let s = c .before .before .before .before .before .before .before .before .before in
-    let o = s .before .before .before .before in
-    omega (
-      arith,
-      ends-within (o .args .words .now) _ (s .head-of .ensures) (length (o .args .payload .now)) _ (c .header-offset .ensures)
-          (o .pre .1),
-    )
+add-next c = omega (arith, message-inside c)
 
 add-next-2 : tie.Need-add-next-2
-add-next-2 c =
-    let s = c .before .before .before .before .before .before .before .before .before in
-    let o = s .before .before .before .before in
-    omega (
-      arith,
-      ends-within (o .args .words .now) _ (s .head-of .ensures) (length (o .args .payload .now)) _ (c .header-offset .ensures)
-          (o .pre .1),
-    )
+add-next-2 c = omega (arith, message-inside c)
 
 cast-next : tie.Need-cast-next
-cast-next c =
-    let s = c .before .before .before .before .before .before .before .before .before in
-    let o = s .before .before .before .before in
-    omega (
-      arith,
-      ends-within (o .args .words .now) _ (s .head-of .ensures) (length (o .args .payload .now)) _ (c .header-offset .ensures)
-          (o .pre .1),
-    )
+cast-next c = omega (arith, message-inside c)
 
 cast-next-2 : tie.Need-cast-next-2
-cast-next-2 c =
-    let s = c .before .before .before .before .before .before .before .before .before in
-    let o = s .before .before .before .before in
-    omega (
-      arith,
-      ends-within (o .args .words .now) _ (s .head-of .ensures) (length (o .args .payload .now)) _ (c .header-offset .ensures)
-          (o .pre .1),
-    )
+cast-next-2 c = omega (arith, message-inside c)
 
 put-head-requires : tie.Need-put-head-requires
 put-head-requires c κs = search needs
@@ -91,7 +78,8 @@ returns c =
     let h = g .before .before .before in
     let s = h .before .before .before .before in
     let a = s .args in
-    λ l. counted (a .words .now) _ (h .head-of .ensures) (a .t .0) (a .payload .now) (s .pre .0) _ _ _ _ (g .sending-at .ensures)
+    λ l. counted (a .words .now) _ (h .head-of .ensures) (a .t .0) (a .payload .now) (s .pre .0) _ _ _ _
+    (g .sending-at .ensures)
     (o .header-offset .ensures) (e .put-sending .ensures .0 l) (p .put-head .ensures .0 (search needs))
 
 pub count-message-spec : {M : Type 1} → statement M
