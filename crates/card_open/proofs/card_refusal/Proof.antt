@@ -1,6 +1,8 @@
 -- `card_refusal`: 13 before 26.
 -- Assumes nothing.
-use mathlib.Core.Path.{_≡_}
+use mathlib.Core.Path.{_≡_, sym, _∙_}
+use mathlib.Core.Bool.{false}
+use lib.Dec.{eqb}
 use borrow.Author.Tests.{eq-eqb, ne-eqb, not-true, not-false}
 use Rattle.card.specs.Card.{fits, cardRefusal}
 use borrow.Author.Needs.{needs}
@@ -21,31 +23,31 @@ returns-2 c = rw (ne-eqb _ 0 (c .before .if1 .left), eq-eqb _ 0 (c .if2 .taken))
 is-fitting-requires : tie.Need-is-fitting-requires
 is-fitting-requires c κs = search needs
 
+-- past the tests before: both IDs are given, and what is left is whether the slots fit
+module _ (f : tie.After-is-fitting) where
+  abbrev start : tie.Start
+  start = f .before .before .before .before
+
+  own-given : eqb (start .args .own) 0 ≡ false
+  own-given = ne-eqb (start .args .own) 0 (f .before .before .if1 .left)
+
+  peer-given : eqb (start .args .peer) 0 ≡ false
+  peer-given = ne-eqb (start .args .peer) 0 (f .before .if2 .left)
+
+  fitting : fits (start .args .limit) (start .args .slots .now) ≡ f .is-fitting .result
+  fitting = sym (f .is-fitting .ensures)
+
 returns-3 : tie.Need-returns-3
 unfolding cardRefusal
 returns-3 c =
-    let s = c .before .before in
-    let a = s .before .before .before .args in
-    let f : c .before .is-fitting .result ≡ fits (a .limit) (a .slots .now) = c .before .is-fitting .ensures in
-    rw (
-      ne-eqb (a .own) 0 (s .before .if1 .left),
-      ne-eqb (a .peer) 0 (s .if2 .left),
-      ← f,
-      not-true (c .before .is-fitting .result) (c .if3 .taken),
-    )
+    let f = c .before in
+    rw (own-given f, peer-given f, fitting f ∙ not-true _ (c .if3 .taken))
 
 returns-4 : tie.Need-returns-4
 unfolding cardRefusal
 returns-4 c =
-    let s = c .before .before in
-    let a = s .before .before .before .args in
-    let f : c .before .is-fitting .result ≡ fits (a .limit) (a .slots .now) = c .before .is-fitting .ensures in
-    rw (
-      ne-eqb (a .own) 0 (s .before .if1 .left),
-      ne-eqb (a .peer) 0 (s .if2 .left),
-      ← f,
-      not-false (c .before .is-fitting .result) (c .if3 .left),
-    )
+    let f = c .before in
+    rw (own-given f, peer-given f, fitting f ∙ not-false _ (c .if3 .left))
 
 pub card-refusal-spec : {M : Type 1} → statement M
 card-refusal-spec = tie.close (tie.spec returns returns-2 is-fitting-requires returns-3 returns-4)
