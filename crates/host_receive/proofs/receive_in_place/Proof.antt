@@ -1,7 +1,11 @@
 -- `host_receive::receive_in_place`: the heading's refusals, then the flag, then where the number lies.
 -- Assumes nothing.
-use mathlib.Core.Path.{refl, sym, _∙_}
+use mathlib.Core.Path.{_≡_, refl, sym, _∙_}
 use borrow.Author.Tests.{not-true, not-false}
+use lib.ListN.{length}
+use Rattle.wire.specs.Reading.{addressed}
+use Rattle.wire.proofs.Reading.{Framed}
+use Rattle.host.specs.declared.Pair.{Pair}
 use Rattle.host_words.specs.Words.{pairOf}
 use Rattle.host_words.proofs.Words.{next-lt}
 use Rattle.host_number.proofs.Window.{not-new, new-in}
@@ -61,19 +65,32 @@ frame-header-requires c κs = search needs
 same-length-2 : tie.Need-same-length-2
 same-length-2 c = search needs
 
+-- past the tests before: the words hold a pair, and the heading is not refused
+module _ (e : tie.After-frame-header) where
+  abbrev headed : tie.After-heading-refusal
+  headed = e .before .before
+
+  abbrev start : tie.Start
+  start = headed .before .before .before .before .before .before .before .before .before
+
+  abbrev lent : Pair
+  lent = pairOf (start .args .words .now)
+
+  long : length (start .args .words .now) ≡ 67
+  long = headed .before .before .before .before .before .if1 .left
+
+  good : Framed (addressed (lent .own) (lent .peer) (start .args .f .now)) (start .args .f .now)
+  good =
+      framed lent (start .args .f .now) _ _ _ (headed .before .before .before .own .ensures)
+      (headed .before .peer .ensures) (headed .heading-refusal .ensures) (e .before .if2 .left)
+
 returns-3 : tie.Need-returns-3
 returns-3 c =
-    let flagged = c in
-    let headed = flagged .before .before .before in
-    let sized = headed .before .before .before .before .before .before in
-    let a = sized .before .before .before .before .args in
-    let p = pairOf (a .words .now) in
-    let named = headed .before .before in
-    let h = framed p (a .f .now) _ _ _ (named .before .before .own .ensures) (named .peer .ensures)
-    (headed .before .heading-refusal .ensures) (headed .if2 .left) in
-    let f-is = c .before .before .frame-header .ensures in
-    let s = stays _ _ _ _ (none-there p (a .f .now) (a .memory .now) h _ f-is (c .if3 .taken)) in
-    (λ l. s, λ n. absurd (n (sized .if1 .left)))
+    let e = c .before .before in
+    let a = start e .args in
+    let s = stays _ _ _ _
+    (none-there (lent e) (a .f .now) (a .memory .now) (good e) _ (e .frame-header .ensures) (c .if3 .taken)) in
+    (λ l. s, λ n. absurd (n (long e)))
 
 next-requires : tie.Need-next-requires
 next-requires c κs = search needs
@@ -96,15 +113,12 @@ same-length-3 c = search needs
 returns-4 : tie.Need-returns-4
 returns-4 c =
     let flagged = c .before .before .before .before .before .before .before .before .before in
-    let headed = flagged .before .before .before in
-    let sized = headed .before .before .before .before .before .before in
-    let a = sized .before .before .before .before .args in
+    let e = flagged .before .before in
+    let named = e .before .before .before in
+    let a = named .before .before .before .before .before .before .before .before .args in
     let p = pairOf (a .words .now) in
-    let named = headed .before .before in
-    let h = framed p (a .f .now) _ _ _ (named .before .before .own .ensures) (named .peer .ensures)
-    (headed .before .heading-refusal .ensures) (headed .if2 .left) in
     let away = c .before .before .before .before .before in
-    let w = awaited p (a .f .now) h _ (flagged .before .before .frame-header .ensures) (flagged .if3 .left) _
+    let w = awaited p (a .f .now) (good e) _ (e .frame-header .ensures) (flagged .if3 .left) _
     (rw (away .before .next .ensures) at (away .distance .ensures)) (next-lt (a .words .now))
     (rw (c .before .before .before .marks .ensures) at (c .before .before .before .marks .ok)) in
     let new-is = rw (c .before .before .before .marks .ensures) at (c .before .before .is-new .ensures) in
@@ -117,7 +131,7 @@ returns-4 c =
             ∙ rw (named .before .before .own .ensures, named .peer .ensures, c .before .before .before .marks .ensures)
             (s .2),
       ),
-      λ n. absurd (n (sized .if1 .left)),
+      λ n. absurd (n (long e)),
     )
 
 take-in-requires : tie.Need-take-in-requires
@@ -133,21 +147,17 @@ returns-5 : tie.Need-returns-5
 returns-5 c =
     let new = c .before .before .before .before .before .before .before in
     let flagged = new .before .before .before .before .before .before .before .before in
-    let headed = flagged .before .before .before in
-    let sized = headed .before .before .before .before .before .before in
-    let a = sized .before .before .before .before .args in
-    let p = pairOf (a .words .now) in
-    let named = headed .before .before in
-    let h = framed p (a .f .now) _ _ _ (named .before .before .own .ensures) (named .peer .ensures)
-    (headed .before .heading-refusal .ensures) (headed .if2 .left) in
+    let e = flagged .before .before in
+    let a = start e .args in
+    let p = lent e in
     let away = new .before .before .before .before in
-    let w = awaited p (a .f .now) h _ (flagged .before .before .frame-header .ensures) (flagged .if3 .left) _
+    let w = awaited p (a .f .now) (good e) _ (e .frame-header .ensures) (flagged .if3 .left) _
     (rw (away .before .next .ensures) at (away .distance .ensures)) (next-lt (a .words .now))
     (rw (new .before .before .marks .ensures) at (new .before .before .marks .ok)) in
     let new-is = rw (new .before .before .marks .ensures) at (new .before .is-new .ensures) in
     let lies = new-in (p .marks) _ (sym new-is ∙ not-false _ (new .if4 .left)) in (
       λ l. c .before .before .before .before .take-in .ensures _ w (lies .0) (lies .1) l,
-      λ n. absurd (n (sized .if1 .left)),
+      λ n. absurd (n (long e)),
     )
 
 pub receive-in-place-spec : {M : Type 1} → statement M
