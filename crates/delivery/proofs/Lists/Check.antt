@@ -1,8 +1,8 @@
 -- The premise on writes as a test that the checker runs, with its soundness; and demand 3 applied to a list that passes
--- all premises, of a card 2 and a host 1 with frames of at most 64 bytes. Assumes nothing.
+-- all premises, of a card 2 and a host 1. Assumes nothing.
 use Prim.Native.Nat.{ℕ, zero, suc, _+_, _*_, _<_}
 use native.Mathlib.Omega.{arith}
-use mathlib.Core.Path.{_≡_, refl, sym, subst}
+use mathlib.Core.Path.{_≡_, refl, sym, ap, subst}
 use mathlib.Core.Logic.{_⊎_, inl, inr}
 use mathlib.Core.Bool.{Bool, true, false, _&&_, _||_, and-eq-true-iff}
 use mathlib.Core.List.{List, [], _∷_, List·Memᴰ, List·Memᴰ·cases-cons, List·Memᴰ·not-nil}
@@ -147,35 +147,59 @@ module _ (b : Book) where
 
 -- ---- a list of calls
 
+-- A slot buffer for frames of at most so many bytes. The checker walks through it at each call, so that lists are run
+-- with the least that their frames need: 36 bytes for one message with two bytes.
+abbrev pub slotsOf : ℕ → List ℕ
+slotsOf limit = replicate (64 * limit) 0
+
 abbrev pub slots₀ : List ℕ
-slots₀ = replicate (64 * 64) 0
+slots₀ = slotsOf 64
 
-abbrev pub runs : Implementation → List ℕ → List Event → RunResult
-runs e memory events = run e (initial e 2 1 64 slots₀ memory) events
+abbrev pub runs : ℕ → Implementation → List ℕ → List Event → RunResult
+runs limit e memory events = run e (initial e 2 1 limit (slotsOf limit) memory) events
 
-abbrev pub booked : Implementation → List ℕ → List Event → Book
-booked e memory events = bookOf memory (runs e memory events .observations)
+abbrev pub booked : ℕ → Implementation → List ℕ → List Event → Book
+booked limit e memory events = bookOf memory (runs limit e memory events .observations)
 
-unfoldable pub passes : Implementation → List ℕ → List Event → Bool
-passes e memory events =
-    (eqb (e .cardEnd .cardOpening 2 1 64 slots₀ .refusal) 0 && eqb (e .hostEnd .hostOpening 1 2 .refusal .number) 0)
-    && (allTyped events
-    && (notTooLate (emptyBook memory) (runs e memory events .observations)
-    && writesAllowed (booked e memory events)))
+-- Whether a list passes all premises, and its book: in one value, so that the checker runs the list once for both.
+pub record Judged : Type 0 where
+  pub passed : Bool
+  pub book : Book
 
-pub applied : (e : Implementation) → Demand3For e → (memory : List ℕ) (events : List Event)
-    → passes e memory events ≡ true → Guarantees (outcomeOf (runs e memory events .system)) (booked e memory events)
-unfolding Demand3For passes
-applied e d memory events p =
+unfoldable pub judge : ℕ → Implementation → List ℕ → List Event → Judged
+judge limit e memory events =
+    let card = e .cardEnd .cardOpening 2 1 limit (slotsOf limit) in
+    let host = e .hostEnd .hostOpening 1 2 in
+    let shown = runs limit e memory events .observations in
+    let b = bookOf memory shown in
+    record {
+      passed = (eqb (card .refusal) 0 && eqb (host .refusal .number) 0)
+          && (allTyped events && (notTooLate (emptyBook memory) shown && writesAllowed b));
+      book = b;
+    }
+
+abbrev pub passes : ℕ → Implementation → List ℕ → List Event → Bool
+passes limit e memory events = judge limit e memory events .passed
+
+pub applied : (limit : ℕ) (e : Implementation) → Demand3For e → (memory : List ℕ) (events : List Event)
+    → passes limit e memory events ≡ true
+    → Guarantees (outcomeOf (runs limit e memory events .system)) (booked limit e memory events)
+unfolding Demand3For judge
+applied limit e d memory events p =
     let g = and-eq-true-iff _ _ .0 p in
     let o = and-eq-true-iff _ _ .0 (g .0) in
     let t = and-eq-true-iff _ _ .0 (g .1) in
     let k = and-eq-true-iff _ _ .0 (t .1) in
-    d 2 1 64 slots₀ memory events
+    d 2 1 limit (slotsOf limit) memory events
     (record {
       cardFits = lit< tt;
       hostFits = lit< tt;
       cardOpens = eqb-true _ _ (o .0);
       hostOpens = eqb-true _ _ (o .1);
     })
-    (t .0) (k .0) (allowed-by (booked e memory events) (k .1))
+    (t .0) (k .0) (allowed-by (booked limit e memory events) (k .1))
+
+pub judged-book : (limit : ℕ) (e : Implementation) (memory : List ℕ) (events : List Event) (b : Book)
+    → judge limit e memory events ≡ record { passed = true; book = b } → booked limit e memory events ≡ b
+unfolding judge
+judged-book limit e memory events b q = ap (λ (j : Judged). j .book) q

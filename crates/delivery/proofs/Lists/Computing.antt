@@ -109,7 +109,7 @@ use Rattle.delivery.specs.Demand3.{
   neededBy,
   bytesBy,
 }
-use Rattle.delivery.proofs.Lists.Check.{every, below, apart, noByteTwice, writesAllowed, passes}
+use Rattle.delivery.proofs.Lists.Check.{every, below, apart, noByteTwice, writesAllowed, judge}
 
 unfoldable pub computing : Unit {0}
 unfolding distance advance latest mark withMark leading trailingOnes marksOf little value field inside written headOf
@@ -124,5 +124,5 @@ unfolding distance advance latest mark withMark leading trailingOnes marksOf lit
     bookWrites bookMemory serialWrites serialMemory dataBytes completeCount newlyComplete enterOpening enterMessage
     enterSealing changeAt markWhere enterAck acceptedRun enterHandOut enterArrival enterNoEffect enterDelivery shown
     chosen enter bookFrom emptyBook typed allTyped frameInTime ackInTime inTime notTooLate seenAs numberedAs copyOf
-    saysAccepted timesAccepted sumOver neededBy bytesBy every below apart noByteTwice writesAllowed passes
+    saysAccepted timesAccepted sumOver neededBy bytesBy every below apart noByteTwice writesAllowed judge
 computing = tt

@@ -16,6 +16,7 @@ use Rattle.host.specs.declared.Answer.{Answer}
 use Rattle.card.specs.Window.{unreleased}
 use Rattle.delivery.specs.Book.{
   MessageRecord,
+  FrameRecord,
   nothingHanded,
   lentAck,
   frameCopy,
@@ -71,7 +72,7 @@ use Rattle.delivery.specs.Demand3.{
   WhenAllFinished,
 }
 use Rattle.delivery.proofs.Demand.{demand3}
-use Rattle.delivery.proofs.Lists.Check.{runs, booked, passes, applied}
+use Rattle.delivery.proofs.Lists.Check.{runs, booked, Judged, judge, applied, judged-book}
 use Rattle.delivery.proofs.Lists.Computing.{computing}
 
 abbrev message : ℕ → ℕ → List ℕ → MessageRecord
@@ -80,14 +81,14 @@ message t at bytes = record { trans = t; dataAddress = at; bytes = bytes }
 abbrev run : ℕ → ℕ → AckRange
 run first many = record { first = first; many = many }
 
-abbrev answersTo : List ℕ → List Event → List Answer
-answersTo memory events = runs specified memory events .system .answers
+abbrev answersTo : ℕ → List ℕ → List Event → List Answer
+answersTo limit memory events = runs limit specified memory events .system .answers
 
-abbrev memoryAfter : List ℕ → List Event → List ℕ
-memoryAfter memory events = runs specified memory events .system .memory
+abbrev memoryAfter : ℕ → List ℕ → List Event → List ℕ
+memoryAfter limit memory events = runs limit specified memory events .system .memory
 
-abbrev unreleasedAfter : List ℕ → List Event → ℕ
-unreleasedAfter memory events = unreleased (runs specified memory events .system .card .window)
+abbrev unreleasedAfter : ℕ → List ℕ → List Event → ℕ
+unreleasedAfter limit memory events = unreleased (runs limit specified memory events .system .card .window)
 
 -- ---- a list at whose end all is finished
 
@@ -114,14 +115,7 @@ abbrev memory : List ℕ
 memory = replicate 20 0
 
 abbrev book : Book
-book = booked specified memory events
-
-met : passes specified memory events ≡ true
-unfolding computing events
-met = refl
-
-holds : Guarantees (outcomeOf (runs specified memory events .system)) book
-holds = applied specified demand3 memory events met
+book = booked 36 specified memory events
 
 -- What the book says of this list, found by running it.
 written : Book
@@ -146,9 +140,15 @@ written = record {
       ∷ expectAgain 0 3 ∷ expectNoEffect ∷ expectNoEffect ∷ [];
 }
 
-book-is : book ≡ written
+judged : judge 36 specified memory events ≡ record { passed = true; book = written }
 unfolding computing events written
-book-is = refl
+judged = refl
+
+book-is : book ≡ written
+book-is = judged-book 36 specified memory events written judged
+
+holds : Guarantees (outcomeOf (runs 36 specified memory events .system)) book
+holds = applied 36 specified demand3 memory events (ap (λ (j : Judged). j .passed) judged)
 
 both-finished : (i : ℕ) → i < length (written .transactions) → finished written i ≡ true
 unfolding written finished allMessagesIn messagesIn ofTransaction leading needed
@@ -162,7 +162,7 @@ all-finished =
 
 -- What the theorem then says of the host: its answers one by one; and, with both transactions finished, three messages,
 -- five bytes, two transactions, and memory as if the two had run one after the other.
-answered : map seenAs (answersTo memory events)
+answered : map seenAs (answersTo 36 memory events)
     ≡ expectAccepted 1 (record { messages = 1; bytes = 1; completed = 0 }) 1
     ∷ expectAccepted 0 (record { messages = 1; bytes = 2; completed = 1 }) 2
     ∷ expectAgain 0 2
@@ -171,22 +171,22 @@ answered : map seenAs (answersTo memory events)
 unfolding written numberedAs
 answered = holds .answersMatch ∙ ap (λ (b : Book). map numberedAs (b .expected)) book-is
 
-whole : WhenAllFinished (outcomeOf (runs specified memory events .system)) book
+whole : WhenAllFinished (outcomeOf (runs 36 specified memory events .system)) book
 whole = holds .whenAllFinished all-finished
 
-messages-whole : messagesSum (answersTo memory events) ≡ 3
+messages-whole : messagesSum (answersTo 36 memory events) ≡ 3
 unfolding written neededBy needed
 messages-whole = whole .messagesWhole ∙ ap (λ (b : Book). neededBy (b .transactions)) book-is
 
-bytes-whole : bytesSum (answersTo memory events) ≡ 5
+bytes-whole : bytesSum (answersTo 36 memory events) ≡ 5
 unfolding written messagesIn ofTransaction dataBytes bytesBy
 bytes-whole = whole .bytesWhole ∙ ap (λ (b : Book). bytesBy 0 (b .transactions) (addedMessages b)) book-is
 
-complete-whole : completeSum (answersTo memory events) ≡ 2
+complete-whole : completeSum (answersTo 36 memory events) ≡ 2
 unfolding written
 complete-whole = whole .completeWhole ∙ ap (λ (b : Book). length (b .transactions)) book-is
 
-memory-whole : memoryAfter memory events ≡ 1 ∷ 5 ∷ 6 ∷ replicate 13 0 ++ 9 ∷ 0 ∷ 0 ∷ 0 ∷ []
+memory-whole : memoryAfter 36 memory events ≡ 1 ∷ 5 ∷ 6 ∷ replicate 13 0 ++ 9 ∷ 0 ∷ 0 ∷ 0 ∷ []
 unfolding written messagesIn ofTransaction dataWrites completionWrite little serialWrites perform serialMemory
 memory-whole = whole .memoryInTurn ∙ ap serialMemory book-is
 
@@ -208,11 +208,7 @@ abbrev memory₂ : List ℕ
 memory₂ = replicate 32 0
 
 abbrev book₂ : Book
-book₂ = booked specified memory₂ partway
-
-holds₂ : Guarantees (outcomeOf (runs specified memory₂ partway .system)) book₂
-unfolding computing partway
-holds₂ = applied specified demand3 memory₂ partway refl
+book₂ = booked 64 specified memory₂ partway
 
 -- What the book says of it: of four sealed frames the first is released, the first and the third are accepted; of six
 -- messages with seven bytes three with four are accepted, and one of three transactions is complete.
@@ -237,9 +233,15 @@ written₂ = record {
       ∷ expectAgain 0 1 ∷ [];
 }
 
-book-is₂ : book₂ ≡ written₂
+judged₂ : judge 64 specified memory₂ partway ≡ record { passed = true; book = written₂ }
 unfolding computing partway written₂
-book-is₂ = refl
+judged₂ = refl
+
+book-is₂ : book₂ ≡ written₂
+book-is₂ = judged-book 64 specified memory₂ partway written₂ judged₂
+
+holds₂ : Guarantees (outcomeOf (runs 64 specified memory₂ partway .system)) book₂
+holds₂ = applied 64 specified demand3 memory₂ partway (ap (λ (j : Judged). j .passed) judged₂)
 
 sealed-four : length (book₂ .frames) ≡ 4
 unfolding written₂
@@ -250,19 +252,19 @@ unfolding written₂ leading
 released-first = ap releasedCount book-is₂
 
 -- Of the answers to the copies of frame 0, which came twice, one is "accepted", and of those to frame 2 too.
-once-first : timesAccepted 0 (answersTo memory₂ partway) (book₂ .expected) ≡ 1
+once-first : timesAccepted 0 (answersTo 64 memory₂ partway) (book₂ .expected) ≡ 1
 unfolding written₂
 once-first = holds₂ .acceptedOnce 0 (ap (λ (b : Book). frameAt b 0 .accepted) book-is₂)
 
-once-third : timesAccepted 2 (answersTo memory₂ partway) (book₂ .expected) ≡ 1
+once-third : timesAccepted 2 (answersTo 64 memory₂ partway) (book₂ .expected) ≡ 1
 unfolding written₂
 once-third = holds₂ .acceptedOnce 2 (ap (λ (b : Book). frameAt b 2 .accepted) book-is₂)
 
 -- Of the four sealed frames the card has three left; the one released was accepted.
-three-left : unreleasedAfter memory₂ partway ≡ 3
+three-left : unreleasedAfter 64 memory₂ partway ≡ 3
 three-left = omega (arith, holds₂ .releasedAgrees, sealed-four, released-first)
 
-released-once : timesAccepted 0 (answersTo memory₂ partway) (book₂ .expected) ≡ 1
+released-once : timesAccepted 0 (answersTo 64 memory₂ partway) (book₂ .expected) ≡ 1
 released-once = holds₂ .releasedAccepted 0 (omega (arith, three-left, sealed-four))
 
 -- Each transaction has its last message added, and none more.
@@ -273,21 +275,21 @@ none-over i h =
     subst (λ (b : Book). length (ofTransaction i (addedMessages b)) ≤ needed (transactionAt b i .count)) book-is₂
     (holds₂ .noneOver i (subst (λ (b : Book). i < length (b .transactions)) (sym book-is₂) h))
 
-messages-part : messagesSum (answersTo memory₂ partway) ≡ 3
+messages-part : messagesSum (answersTo 64 memory₂ partway) ≡ 3
 unfolding written₂ messagesIn
 messages-part = holds₂ .messagesAgree ∙ ap (λ (b : Book). length (acceptedMessages b)) book-is₂
 
-bytes-part : bytesSum (answersTo memory₂ partway) ≡ 4
+bytes-part : bytesSum (answersTo 64 memory₂ partway) ≡ 4
 unfolding written₂ messagesIn dataBytes
 bytes-part = holds₂ .bytesAgree ∙ ap (λ (b : Book). dataBytes (acceptedMessages b)) book-is₂
 
-complete-part : completeSum (answersTo memory₂ partway) ≡ 1
+complete-part : completeSum (answersTo 64 memory₂ partway) ≡ 1
 unfolding written₂ messagesIn ofTransaction allMessagesIn needed completeCount
 complete-part =
     holds₂ .completeAgree ∙ ap (λ (b : Book). completeCount 0 (b .transactions) (acceptedMessages b)) book-is₂
 
 -- the data of both transactions in the accepted frames, and the completion of the first
-memory-part : memoryAfter memory₂ partway ≡ 0 ∷ 0 ∷ 9 ∷ 0 ∷ 3 ∷ 4 ∷ 5 ∷ replicate 13 0 ++ 7 ∷ replicate 11 0
+memory-part : memoryAfter 64 memory₂ partway ≡ 0 ∷ 0 ∷ 9 ∷ 0 ∷ 3 ∷ 4 ∷ 5 ∷ replicate 13 0 ++ 7 ∷ replicate 11 0
 unfolding written₂ messagesIn ofTransaction allMessagesIn needed dataWrites completionWrite little writesOf bookWrites
     perform bookMemory
 memory-part = holds₂ .memoryAgrees ∙ ap bookMemory book-is₂
@@ -304,29 +306,55 @@ joined =
     ∷ reads 4 ∷ []
 
 abbrev book₃ : Book
-book₃ = booked specified memory joined
+book₃ = booked 36 specified memory joined
 
-holds₃ : Guarantees (outcomeOf (runs specified memory joined .system)) book₃
-unfolding computing joined
-holds₃ = applied specified demand3 memory joined refl
+-- What the book says of it: frames 0, 2 and 3 are accepted with runs of their own number alone; frame 1 has one of
+-- three, and the repeat of frame 0 one of all four.
+abbrev frameRead : ℕ → ℕ → FrameRecord
+frameRead at byte =
+    record { messages = message 0 at (byte ∷ []) ∷ []; acknowledged = true; accepted = true }
 
--- Frames 0, 2 and 3 are accepted with runs of their own number alone; frame 1 has one of three, and the repeat of frame
--- 0 one of all four.
-answered₃ : map seenAs (answersTo memory joined)
+written₃ : Book
+written₃ = record {
+  start = memory;
+  transactions = record { count = 4; completionAddress = 16; completionValue = 7; unfinishedAtOpening = [] } ∷ [];
+  frames = frameRead 0 1 ∷ frameRead 1 2 ∷ frameRead 2 3 ∷ frameRead 3 4 ∷ [];
+  building = [];
+  handOuts = frameCopy 0 ∷ frameCopy 1 ∷ frameCopy 2 ∷ frameCopy 3 ∷ [];
+  acksDue = run 0 1 ∷ run 2 1 ∷ run 3 1 ∷ run 1 3 ∷ run 0 4 ∷ [];
+  expected =
+      expectAccepted 0 (record { messages = 1; bytes = 1; completed = 0 }) 1
+      ∷ expectAccepted 2 (record { messages = 1; bytes = 1; completed = 0 }) 1
+      ∷ expectAccepted 3 (record { messages = 1; bytes = 1; completed = 0 }) 1
+      ∷ expectAccepted 1 (record { messages = 1; bytes = 1; completed = 1 }) 3
+      ∷ expectAgain 0 4 ∷ [];
+}
+
+judged₃ : judge 36 specified memory joined ≡ record { passed = true; book = written₃ }
+unfolding computing joined written₃
+judged₃ = refl
+
+book-is₃ : book₃ ≡ written₃
+book-is₃ = judged-book 36 specified memory joined written₃ judged₃
+
+holds₃ : Guarantees (outcomeOf (runs 36 specified memory joined .system)) book₃
+holds₃ = applied 36 specified demand3 memory joined (ap (λ (j : Judged). j .passed) judged₃)
+
+answered₃ : map seenAs (answersTo 36 memory joined)
     ≡ expectAccepted 0 (record { messages = 1; bytes = 1; completed = 0 }) 1
     ∷ expectAccepted 2 (record { messages = 1; bytes = 1; completed = 0 }) 1
     ∷ expectAccepted 3 (record { messages = 1; bytes = 1; completed = 0 }) 1
     ∷ expectAccepted 1 (record { messages = 1; bytes = 1; completed = 1 }) 3
     ∷ expectAgain 0 4 ∷ []
-unfolding computing joined
-answered₃ = holds₃ .answersMatch
+unfolding written₃ numberedAs
+answered₃ = holds₃ .answersMatch ∙ ap (λ (b : Book). map numberedAs (b .expected)) book-is₃
 
 -- By the one acknowledgement that it read the card has released all four.
 released-four : (length (book₃ .frames) ≡ 4) × (releasedCount book₃ ≡ 4)
-unfolding computing joined
-released-four = (refl, refl)
+unfolding written₃ leading
+released-four = (ap (λ (b : Book). length (b .frames)) book-is₃, ap releasedCount book-is₃)
 
-none-left : unreleasedAfter memory joined ≡ 0
+none-left : unreleasedAfter 36 memory joined ≡ 0
 none-left = omega (arith, holds₃ .releasedAgrees, released-four)
 
 -- ---- why writes of transactions that are open together must not meet
@@ -337,12 +365,12 @@ crossed =
     opens 1 8 7 ∷ opens 1 12 8 ∷ adds 1 5 (1 ∷ []) ∷ seals ∷ shows 0 ∷ receives 0 ∷ reads 0
     ∷ adds 0 5 (2 ∷ []) ∷ seals ∷ shows 1 ∷ receives 1 ∷ []
 
-crossed-excluded : WritesAllowed (booked specified memory crossed) → ⊥
+crossed-excluded : WritesAllowed (booked 36 specified memory crossed) → ⊥
 unfolding computing crossed Apart
 crossed-excluded k =
     k .apart .apartTogether 0 1 (lit< tt) (lit< tt) (List·Memᴰ·head refl) .0 .0 5 (lit≤ tt, lit< tt) (lit≤ tt, lit< tt)
 
-crossed-differs : runs specified memory crossed .system .memory ≡ bookMemory (booked specified memory crossed) → ⊥
+crossed-differs : runs 36 specified memory crossed .system .memory ≡ bookMemory (booked 36 specified memory crossed) → ⊥
 unfolding computing crossed
 crossed-differs e =
     let z : _≡_ {A = ℕ} 2 1 = ap (λ m. getD m 5 0) e in

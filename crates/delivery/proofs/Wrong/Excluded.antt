@@ -2,13 +2,34 @@
 -- conclusion is false. And what it does not: a card that adds nothing meets it. Assumes nothing.
 use Prim.Native.Nat.{ℕ, zero, suc, _+_, _≤_, _<_}
 use native.Mathlib.Omega.{arith}
-use mathlib.Core.Path.{_≡_, refl, ap}
+use mathlib.Core.Path.{_≡_, refl, sym, ap, _∙_, subst}
 use mathlib.Core.Bool.{true}
 use mathlib.Core.List.{List, [], _∷_, map}
 use lib.Dec.{lit<}
-use lib.ListN.{getD, replicate}
+use lib.ListN.{length, getD, replicate}
 use Rattle.seq.specs.Ring.{frameSpace}
-use Rattle.delivery.specs.Book.{Expected, expectAccepted, expectAgain, expectNoEffect, finished, enter}
+use Rattle.bitmap.specs.Marks.{leading}
+use Rattle.wire.specs.Format.{needed}
+use Rattle.host.specs.declared.Answer.{Answer}
+use Rattle.host.specs.declared.Answer.the-variants.{Accepted}
+use Rattle.delivery.specs.Book.{
+  frameCopy,
+  Expected,
+  expectAccepted,
+  expectAgain,
+  expectNoEffect,
+  Book,
+  messagesIn,
+  acceptedMessages,
+  addedMessages,
+  ofTransaction,
+  allMessagesIn,
+  finished,
+  serialMemory,
+  dataBytes,
+  completeCount,
+  enter,
+}
 use Rattle.delivery.specs.System.{
   openCall,
   addCall,
@@ -16,6 +37,7 @@ use Rattle.delivery.specs.System.{
   readCall,
   showCall,
   chooseCall,
+  Implementation,
   calls,
   Event,
   opens,
@@ -30,7 +52,19 @@ use Rattle.delivery.specs.System.{
   step,
   initial,
 }
-use Rattle.delivery.specs.Demand3.{outcomeOf, seenAs, Guarantees, Demand3For}
+use Rattle.delivery.specs.Demand3.{
+  outcomeOf,
+  seenAs,
+  sumOver,
+  messagesSum,
+  bytesSum,
+  completeSum,
+  neededBy,
+  bytesBy,
+  WhenAllFinished,
+  Guarantees,
+  Demand3For,
+}
 use Rattle.delivery.specs.WrongEnds.{
   Receiving,
   withHost,
@@ -69,7 +103,7 @@ use Rattle.delivery.specs.WrongEnds.{
 }
 use Rattle.delivery.proofs.Card.CardSteps.{stays}
 use Rattle.delivery.proofs.Demand.{KeepsAgreement, starts, step-any, demand3-by}
-use Rattle.delivery.proofs.Lists.Check.{runs, booked, passes, applied}
+use Rattle.delivery.proofs.Lists.Check.{runs, booked, Judged, judge, passes, applied, judged-book}
 use Rattle.delivery.proofs.Lists.Computing.{computing}
 
 -- The kind of the k-th answer, as a number.
@@ -90,33 +124,33 @@ inOrder =
     ∷ opens 1 5 1 ∷ adds 1 9 (9 ∷ []) ∷ seals ∷ shows 1 ∷ receives 1 ∷ []
 
 -- The premises do not depend on the host.
-met : (r : Receiving) → passes (withHost r) (replicate 10 0) inOrder ≡ true
+met : (r : Receiving) → passes 36 (withHost r) (replicate 10 0) inOrder ≡ true
 unfolding computing inOrder
 met r = refl
 
 not-refusesAll : Demand3For (withHost refusesAll) → ⊥
 unfolding computing inOrder refusesAll kind kindAt
 not-refusesAll d =
-    let z : _≡_ {A = ℕ} 3 1 = ap (kindAt 0) (applied _ d (replicate 10 0) inOrder (met refusesAll) .answersMatch) in
+    let z : _≡_ {A = ℕ} 3 1 = ap (kindAt 0) (applied 36 _ d (replicate 10 0) inOrder (met refusesAll) .answersMatch) in
     omega arith
 
 not-againToAll : Demand3For (withHost againToAll) → ⊥
 unfolding computing inOrder againToAll kind kindAt
 not-againToAll d =
-    let z : _≡_ {A = ℕ} 2 1 = ap (kindAt 0) (applied _ d (replicate 10 0) inOrder (met againToAll) .answersMatch) in
+    let z : _≡_ {A = ℕ} 2 1 = ap (kindAt 0) (applied 36 _ d (replicate 10 0) inOrder (met againToAll) .answersMatch) in
     omega arith
 
 not-writesFirst : Demand3For (withHost writesFirst) → ⊥
 unfolding computing inOrder writesFirst
 not-writesFirst d =
     let z : _≡_ {A = ℕ} 0 9 =
-    ap (λ m. getD m 9 0) (applied _ d (replicate 10 0) inOrder (met writesFirst) .memoryAgrees) in
+    ap (λ m. getD m 9 0) (applied 36 _ d (replicate 10 0) inOrder (met writesFirst) .memoryAgrees) in
     omega arith
 
 not-acknowledgesRest : Demand3For (withHost acknowledgesRest) → ⊥
 unfolding computing inOrder acknowledgesRest kind kindAt
 not-acknowledgesRest d =
-    let z : _≡_ {A = ℕ} 2 1 = ap (kindAt 1) (applied _ d (replicate 10 0) inOrder (met acknowledgesRest) .answersMatch)
+    let z : _≡_ {A = ℕ} 2 1 = ap (kindAt 1) (applied 36 _ d (replicate 10 0) inOrder (met acknowledgesRest) .answersMatch)
     in
     omega arith
 
@@ -139,7 +173,7 @@ completedIn expectNoEffect = 0
 not-invents : (f g k : ℕ → ℕ) → Demand3For (withHost (invents f g k)) → (f 1 ≡ 1) × (g 1 ≡ 1) × (k 1 ≡ 1)
 unfolding computing inOrder invents reporting messagesOf bytesIn completedIn
 not-invents f g k d =
-    let e = applied _ d (replicate 10 0) inOrder (met (invents f g k)) .answersMatch in (
+    let e = applied 36 _ d (replicate 10 0) inOrder (met (invents f g k)) .answersMatch in (
       ap (λ xs. messagesOf (getD xs 0 expectNoEffect)) e,
       ap (λ xs. bytesIn (getD xs 0 expectNoEffect)) e,
       ap (λ xs. completedIn (getD xs 0 expectNoEffect)) e,
@@ -151,28 +185,88 @@ inOrderRead =
     opens 1 0 1 ∷ adds 0 4 (9 ∷ []) ∷ seals ∷ shows 0 ∷ receives 0 ∷ reads 0
     ∷ opens 1 5 1 ∷ adds 1 9 (9 ∷ []) ∷ seals ∷ shows 1 ∷ receives 1 ∷ reads 1 ∷ []
 
+-- Its book, in which both transactions are finished.
+readBook : Book
+readBook = record {
+  start = replicate 10 0;
+  transactions =
+      record { count = 1; completionAddress = 0; completionValue = 1; unfinishedAtOpening = [] }
+      ∷ record { count = 1; completionAddress = 5; completionValue = 1; unfinishedAtOpening = [] } ∷ [];
+  frames =
+      record {
+        messages = record { trans = 0; dataAddress = 4; bytes = 9 ∷ [] } ∷ [];
+        acknowledged = true;
+        accepted = true;
+      }
+      ∷ record {
+        messages = record { trans = 1; dataAddress = 9; bytes = 9 ∷ [] } ∷ [];
+        acknowledged = true;
+        accepted = true;
+      } ∷ [];
+  building = [];
+  handOuts = frameCopy 0 ∷ frameCopy 1 ∷ [];
+  acksDue = record { first = 0; many = 1 } ∷ record { first = 1; many = 1 } ∷ [];
+  expected =
+      expectAccepted 0 (record { messages = 1; bytes = 1; completed = 1 }) 1
+      ∷ expectAccepted 1 (record { messages = 1; bytes = 1; completed = 1 }) 1 ∷ [];
+}
+
+abbrev AllFinished : Book → Type 0
+AllFinished b = (i : ℕ) → i < length (b .transactions) → finished b i ≡ true
+
+read-finished : AllFinished readBook
+unfolding readBook finished allMessagesIn messagesIn ofTransaction leading needed
+read-finished zero h = refl
+read-finished (suc zero) h = refl
+read-finished (suc (suc i)) h = absurd (omega arith)
+
 module _ (f g k : ℕ → ℕ) (d : Demand3For (withHost (invents f g k))) where
-  held : Guarantees (outcomeOf (runs (withHost (invents f g k)) (replicate 10 0) inOrderRead .system))
-      (booked (withHost (invents f g k)) (replicate 10 0) inOrderRead)
+  abbrev inventing : Implementation
+  inventing = withHost (invents f g k)
+
+  abbrev invented : List Answer
+  invented = runs 36 inventing (replicate 10 0) inOrderRead .system .answers
+
+  abbrev inventedBook : Book
+  inventedBook = booked 36 inventing (replicate 10 0) inOrderRead
+
+  judged : judge 36 inventing (replicate 10 0) inOrderRead ≡ record { passed = true; book = readBook }
+  unfolding computing inOrderRead invents reporting readBook
+  judged = refl
+
+  book-is : inventedBook ≡ readBook
+  book-is = judged-book 36 inventing (replicate 10 0) inOrderRead readBook judged
+
+  held : Guarantees (outcomeOf (runs 36 inventing (replicate 10 0) inOrderRead .system)) inventedBook
+  held = applied 36 inventing d (replicate 10 0) inOrderRead (ap (λ (j : Judged). j .passed) judged)
+
+  whole : WhenAllFinished (outcomeOf (runs 36 inventing (replicate 10 0) inOrderRead .system)) inventedBook
+  whole = held .whenAllFinished (subst AllFinished (sym book-is) read-finished)
+
+  abbrev reported : ℕ → Answer
+  reported n = Accepted (record { 0 = n }) (record { messages = f 1; bytes = g 1; completed = k 1 }) 1
+
+  answers-are : invented ≡ reported 0 ∷ reported 1 ∷ []
   unfolding computing inOrderRead invents reporting
-  held = applied _ d (replicate 10 0) inOrderRead refl
+  answers-are = refl
 
   sums-told : (f 1 + (f 1 + 0) ≡ 2) × (g 1 + (g 1 + 0) ≡ 2) × (k 1 + (k 1 + 0) ≡ 2)
-  unfolding computing inOrderRead invents reporting
-  sums-told = (held .messagesAgree, held .bytesAgree, held .completeAgree)
-
-  all-finished : (i : ℕ) → i < 2
-      → finished (booked (withHost (invents f g k)) (replicate 10 0) inOrderRead) i ≡ true
-  unfolding computing inOrderRead invents reporting
-  all-finished zero h = refl
-  all-finished (suc zero) h = refl
-  all-finished (suc (suc i)) h = absurd (omega arith)
+  unfolding readBook messagesIn ofTransaction allMessagesIn needed dataBytes completeCount sumOver
+  sums-told = (
+    ap messagesSum (sym answers-are) ∙ held .messagesAgree ∙ ap (λ (b : Book). length (acceptedMessages b)) book-is,
+    ap bytesSum (sym answers-are) ∙ held .bytesAgree ∙ ap (λ (b : Book). dataBytes (acceptedMessages b)) book-is,
+    ap completeSum (sym answers-are) ∙ held .completeAgree
+        ∙ ap (λ (b : Book). completeCount 0 (b .transactions) (acceptedMessages b)) book-is,
+  )
 
   whole-sums-told : (f 1 + (f 1 + 0) ≡ 2) × (g 1 + (g 1 + 0) ≡ 2) × (k 1 + (k 1 + 0) ≡ 2)
-  unfolding computing inOrderRead invents reporting
-  whole-sums-told =
-      let w = held .whenAllFinished all-finished in
-      (w .messagesWhole, w .bytesWhole, w .completeWhole)
+  unfolding readBook messagesIn ofTransaction needed dataBytes neededBy bytesBy sumOver
+  whole-sums-told = (
+    ap messagesSum (sym answers-are) ∙ whole .messagesWhole ∙ ap (λ (b : Book). neededBy (b .transactions)) book-is,
+    ap bytesSum (sym answers-are) ∙ whole .bytesWhole
+        ∙ ap (λ (b : Book). bytesBy 0 (b .transactions) (addedMessages b)) book-is,
+    ap completeSum (sym answers-are) ∙ whole .completeWhole ∙ ap (λ (b : Book). length (b .transactions)) book-is,
+  )
 
 -- ---- hosts with one fault
 
@@ -186,7 +280,7 @@ lastOfWindow = manyOpens 32 (adds 31 0 [] ∷ seals ∷ shows 0 ∷ receives 0 �
 not-windowShort : Demand3For (withHost windowShort) → ⊥
 unfolding computing lastOfWindow manyOpens windowShort kind kindAt
 not-windowShort d =
-    let z : _≡_ {A = ℕ} 3 1 = ap (kindAt 0) (applied _ d (replicate 4 0) lastOfWindow refl .answersMatch) in
+    let z : _≡_ {A = ℕ} 3 1 = ap (kindAt 0) (applied 36 _ d (replicate 4 0) lastOfWindow refl .answersMatch) in
     omega arith
 
 twice : List Event
@@ -196,7 +290,7 @@ twice = opens 2 0 1 ∷ adds 0 4 (9 ∷ []) ∷ seals ∷ shows 0 ∷ receives 0
 not-forgets : Demand3For (withHost forgets) → ⊥
 unfolding computing twice forgets
 not-forgets d =
-    let z : _≡_ {A = ℕ} 2 1 = applied _ d (replicate 10 0) twice refl .acceptedOnce 0 refl in
+    let z : _≡_ {A = ℕ} 2 1 = applied 36 _ d (replicate 10 0) twice refl .acceptedOnce 0 refl in
     omega arith
 
 swapped : List Event
@@ -207,7 +301,7 @@ swapped =
 not-takesForOld : Demand3For (withHost takesForOld) → ⊥
 unfolding computing swapped takesForOld kind kindAt
 not-takesForOld d =
-    let z : _≡_ {A = ℕ} 2 1 = ap (kindAt 1) (applied _ d (replicate 6 0) swapped refl .answersMatch) in
+    let z : _≡_ {A = ℕ} 2 1 = ap (kindAt 1) (applied 36 _ d (replicate 6 0) swapped refl .answersMatch) in
     omega arith
 
 runIn : Expected → ℕ
@@ -221,9 +315,9 @@ arrivedOne : List Event
 arrivedOne = opens 0 0 0 ∷ adds 0 0 [] ∷ seals ∷ shows 0 ∷ receives 0 ∷ []
 
 own-run : (r : Receiving) → Demand3For (withHost r)
-    → map runIn (map seenAs (runs (withHost r) (replicate 4 0) arrivedOne .system .answers)) ≡ 1 ∷ []
+    → map runIn (map seenAs (runs 36 (withHost r) (replicate 4 0) arrivedOne .system .answers)) ≡ 1 ∷ []
 unfolding computing arrivedOne runIn
-own-run r d = ap (map runIn) (applied _ d (replicate 4 0) arrivedOne refl .answersMatch)
+own-run r d = ap (map runIn) (applied 36 _ d (replicate 4 0) arrivedOne refl .answersMatch)
 
 not-oneTooMany : Demand3For (withHost oneTooMany) → ⊥
 unfolding computing arrivedOne judgesRun withRun runIn
@@ -248,28 +342,37 @@ not-itsOwnOnly : Demand3For (withHost itsOwnOnly) → ⊥
 unfolding computing swapped judgesRun withRun runIn
 not-itsOwnOnly d =
     let z : _≡_ {A = ℕ} 1 2 =
-    ap (λ xs. runIn (getD xs 1 expectNoEffect)) (applied _ d (replicate 6 0) swapped refl .answersMatch) in
+    ap (λ xs. runIn (getD xs 1 expectNoEffect)) (applied 36 _ d (replicate 6 0) swapped refl .answersMatch) in
     omega arith
 
 -- Of two messages one arrives: no completion yet.
 not-completesEarly : Demand3For (withHost completesEarly) → ⊥
 unfolding computing twice completesEarly
 not-completesEarly d =
-    let z : _≡_ {A = ℕ} 1 0 = ap (λ m. getD m 0 0) (applied _ d (replicate 10 0) twice refl .memoryAgrees) in
+    let z : _≡_ {A = ℕ} 1 0 = ap (λ m. getD m 0 0) (applied 36 _ d (replicate 10 0) twice refl .memoryAgrees) in
     omega arith
 
 -- Both transactions are finished, and no completion is written.
+module _ (d : Demand3For (withHost neverCompletes)) where
+  never-judged : judge 36 (withHost neverCompletes) (replicate 10 0) inOrderRead
+      ≡ record { passed = true; book = readBook }
+  unfolding computing inOrderRead neverCompletes readBook
+  never-judged = refl
+
+  never-book : booked 36 (withHost neverCompletes) (replicate 10 0) inOrderRead ≡ readBook
+  never-book = judged-book 36 (withHost neverCompletes) (replicate 10 0) inOrderRead readBook never-judged
+
+  never-memory : runs 36 (withHost neverCompletes) (replicate 10 0) inOrderRead .system .memory ≡ serialMemory readBook
+  never-memory =
+      applied 36 _ d (replicate 10 0) inOrderRead (ap (λ (j : Judged). j .passed) never-judged)
+      .whenAllFinished (subst AllFinished (sym never-book) read-finished) .memoryInTurn
+      ∙ ap serialMemory never-book
+
 not-neverCompletes : Demand3For (withHost neverCompletes) → ⊥
-unfolding computing inOrderRead neverCompletes
+unfolding computing inOrderRead neverCompletes readBook
 not-neverCompletes d =
-    let g = applied _ d (replicate 10 0) inOrderRead refl in
-    let z : _≡_ {A = ℕ} 0 1 = ap (λ m. getD m 0 0) (g .whenAllFinished finished-both .memoryInTurn) in
+    let z : _≡_ {A = ℕ} 0 1 = ap (λ m. getD m 0 0) (never-memory d) in
     omega arith
-  where
-    finished-both : (i : ℕ) → i < 2 → finished (booked (withHost neverCompletes) (replicate 10 0) inOrderRead) i ≡ true
-    finished-both zero h = refl
-    finished-both (suc zero) h = refl
-    finished-both (suc (suc i)) h = absurd (omega arith)
 
 oneOfTwo : List Event
 oneOfTwo =
@@ -278,7 +381,7 @@ oneOfTwo =
 not-acksTwo : Demand3For (withAcknowledging acksTwo) → ⊥
 unfolding computing oneOfTwo acksTwo
 not-acksTwo d =
-    let z : _≡_ {A = ℕ} 2 1 = applied _ d (replicate 6 0) oneOfTwo refl .releasedAgrees in
+    let z : _≡_ {A = ℕ} 2 1 = applied 36 _ d (replicate 6 0) oneOfTwo refl .releasedAgrees in
     omega arith
 
 -- The second acknowledgement called for is of frame 0 again, and not yet of frame 1.
@@ -290,7 +393,7 @@ repeated =
 not-silentOnAgain : Demand3For (withAcknowledging silentOnAgain) → ⊥
 unfolding computing repeated silentOnAgain
 not-silentOnAgain d =
-    let z : _≡_ {A = ℕ} 2 3 = applied _ d (replicate 6 0) repeated refl .releasedAgrees in
+    let z : _≡_ {A = ℕ} 2 3 = applied 36 _ d (replicate 6 0) repeated refl .releasedAgrees in
     omega arith
 
 -- ---- cards
@@ -302,7 +405,7 @@ sealedOne = opens 0 0 0 ∷ adds 0 0 [] ∷ seals ∷ []
 not-releasesEarly : Demand3For (withSealing releasesEarly) → ⊥
 unfolding computing sealedOne releasesEarly
 not-releasesEarly d =
-    let z : _≡_ {A = ℕ} 0 1 = applied _ d (replicate 4 0) sealedOne refl .releasedAccepted 0 (lit< tt) in
+    let z : _≡_ {A = ℕ} 0 1 = applied 36 _ d (replicate 4 0) sealedOne refl .releasedAccepted 0 (lit< tt) in
     omega arith
 
 acknowledgedOne : List Event
@@ -311,13 +414,13 @@ acknowledgedOne = opens 0 0 0 ∷ adds 0 0 [] ∷ seals ∷ shows 0 ∷ receives
 not-ignoresAcks : Demand3For (withReading ignoresAcks) → ⊥
 unfolding computing acknowledgedOne ignoresAcks
 not-ignoresAcks d =
-    let z : _≡_ {A = ℕ} 1 2 = applied _ d (replicate 4 0) acknowledgedOne refl .releasedAgrees in
+    let z : _≡_ {A = ℕ} 1 2 = applied 36 _ d (replicate 4 0) acknowledgedOne refl .releasedAgrees in
     omega arith
 
 not-swapsIds : Demand3For (withCardOpening swapsIds) → ⊥
 unfolding computing inOrder swapsIds kind kindAt
 not-swapsIds d =
-    let z : _≡_ {A = ℕ} 3 1 = ap (kindAt 0) (applied _ d (replicate 10 0) inOrder refl .answersMatch) in
+    let z : _≡_ {A = ℕ} 3 1 = ap (kindAt 0) (applied 36 _ d (replicate 10 0) inOrder refl .answersMatch) in
     omega arith
 
 sealedTwo : List Event
@@ -333,17 +436,17 @@ not-showsOther : Demand3For (withShowing showsOther) → ⊥
 unfolding computing sealedTwo showsOther countIn
 not-showsOther d =
     let z : _≡_ {A = ℕ} 1 0 =
-    ap (λ xs. countIn (getD xs 0 expectNoEffect)) (applied _ d (replicate 6 0) sealedTwo refl .answersMatch) in
+    ap (λ xs. countIn (getD xs 0 expectNoEffect)) (applied 36 _ d (replicate 6 0) sealedTwo refl .answersMatch) in
     omega arith
 
 -- Two messages are added of a transaction that takes one.
 oneOver : List Event
-oneOver = opens 1 0 1 ∷ adds 0 4 [] ∷ adds 0 4 [] ∷ []
+oneOver = opens 1 0 1 ∷ adds 0 4 [] ∷ seals ∷ adds 0 4 [] ∷ []
 
 not-opensLarger : Demand3For (withOpening opensLarger) → ⊥
 unfolding computing oneOver opensLarger
 not-opensLarger d =
-    let z : 2 ≤ 1 = applied _ d (replicate 4 0) oneOver refl .noneOver 0 (lit< tt) in
+    let z : 2 ≤ 1 = applied 36 _ d (replicate 4 0) oneOver refl .noneOver 0 (lit< tt) in
     omega arith
 
 -- A card that adds nothing meets demand 3: the demand asks nothing to be sent. (Nor does it speak of the numbers that
