@@ -2,7 +2,7 @@
 -- conclusion is false. And what it does not: a card that adds nothing meets it. Assumes nothing.
 use Prim.Native.Nat.{ℕ, zero, suc, _+_, _≤_, _<_}
 use native.Mathlib.Omega.{arith}
-use mathlib.Core.Path.{_≡_, refl, sym, ap, _∙_, subst}
+use mathlib.Core.Path.{_≡_, refl, ap, subst}
 use mathlib.Core.Bool.{true}
 use mathlib.Core.List.{List, [], _∷_, map}
 use lib.Dec.{lit<}
@@ -12,6 +12,7 @@ use Rattle.bitmap.specs.Marks.{leading}
 use Rattle.wire.specs.Format.{needed}
 use Rattle.host.specs.declared.Answer.{Answer}
 use Rattle.host.specs.declared.Answer.the-variants.{Accepted}
+use Rattle.card.specs.Window.{unreleased}
 use Rattle.delivery.specs.Book.{
   frameCopy,
   Expected,
@@ -20,12 +21,9 @@ use Rattle.delivery.specs.Book.{
   expectNoEffect,
   Book,
   messagesIn,
-  acceptedMessages,
-  addedMessages,
   ofTransaction,
   allMessagesIn,
   finished,
-  serialMemory,
   dataBytes,
   completeCount,
   enter,
@@ -37,7 +35,6 @@ use Rattle.delivery.specs.System.{
   readCall,
   showCall,
   chooseCall,
-  Implementation,
   calls,
   Event,
   opens,
@@ -46,6 +43,7 @@ use Rattle.delivery.specs.System.{
   reads,
   shows,
   receives,
+  System,
   acksFor,
   byCard,
   byHost,
@@ -53,15 +51,12 @@ use Rattle.delivery.specs.System.{
   initial,
 }
 use Rattle.delivery.specs.Demand3.{
+  Outcome,
   outcomeOf,
   seenAs,
   sumOver,
-  messagesSum,
-  bytesSum,
-  completeSum,
   neededBy,
   bytesBy,
-  WhenAllFinished,
   Guarantees,
   Demand3For,
 }
@@ -103,7 +98,7 @@ use Rattle.delivery.specs.WrongEnds.{
 }
 use Rattle.delivery.proofs.Card.CardSteps.{stays}
 use Rattle.delivery.proofs.Demand.{KeepsAgreement, starts, step-any, demand3-by}
-use Rattle.delivery.proofs.Lists.Check.{runs, booked, Judged, judge, passes, applied, judged-book}
+use Rattle.delivery.proofs.Lists.Check.{runs, Judged, judge, passes, applied, judged-book}
 use Rattle.delivery.proofs.Lists.Computing.{computing}
 
 -- The kind of the k-th answer, as a number.
@@ -150,8 +145,8 @@ not-writesFirst d =
 not-acknowledgesRest : Demand3For (withHost acknowledgesRest) → ⊥
 unfolding computing inOrder acknowledgesRest kind kindAt
 not-acknowledgesRest d =
-    let z : _≡_ {A = ℕ} 2 1 = ap (kindAt 1) (applied 36 _ d (replicate 10 0) inOrder (met acknowledgesRest) .answersMatch)
-    in
+    let z : _≡_ {A = ℕ} 2 1 =
+    ap (kindAt 1) (applied 36 _ d (replicate 10 0) inOrder (met acknowledgesRest) .answersMatch) in
     omega arith
 
 messagesOf : Expected → ℕ
@@ -211,62 +206,57 @@ readBook = record {
       ∷ expectAccepted 1 (record { messages = 1; bytes = 1; completed = 1 }) 1 ∷ [];
 }
 
-abbrev AllFinished : Book → Type 0
-AllFinished b = (i : ℕ) → i < length (b .transactions) → finished b i ≡ true
-
-read-finished : AllFinished readBook
+read-finished : (i : ℕ) → i < length (readBook .transactions) → finished readBook i ≡ true
 unfolding readBook finished allMessagesIn messagesIn ofTransaction leading needed
 read-finished zero h = refl
 read-finished (suc zero) h = refl
 read-finished (suc (suc i)) h = absurd (omega arith)
 
+-- The demand, of a host whose list has this book.
+applied-read : (r : Receiving) → Demand3For (withHost r)
+    → judge 36 (withHost r) (replicate 10 0) inOrderRead ≡ record { passed = true; book = readBook }
+    → Guarantees (outcomeOf (runs 36 (withHost r) (replicate 10 0) inOrderRead .system)) readBook
+applied-read r d q =
+    subst (Guarantees (outcomeOf (runs 36 (withHost r) (replicate 10 0) inOrderRead .system)))
+    (judged-book 36 (withHost r) (replicate 10 0) inOrderRead readBook q)
+    (applied 36 (withHost r) d (replicate 10 0) inOrderRead (ap (λ (j : Judged). j .passed) q))
+
 module _ (f g k : ℕ → ℕ) (d : Demand3For (withHost (invents f g k))) where
-  abbrev inventing : Implementation
-  inventing = withHost (invents f g k)
+  abbrev inventing : System
+  inventing = runs 36 (withHost (invents f g k)) (replicate 10 0) inOrderRead .system
 
-  abbrev invented : List Answer
-  invented = runs 36 inventing (replicate 10 0) inOrderRead .system .answers
-
-  abbrev inventedBook : Book
-  inventedBook = booked 36 inventing (replicate 10 0) inOrderRead
-
-  judged : judge 36 inventing (replicate 10 0) inOrderRead ≡ record { passed = true; book = readBook }
+  judged : judge 36 (withHost (invents f g k)) (replicate 10 0) inOrderRead ≡ record { passed = true; book = readBook }
   unfolding computing inOrderRead invents reporting readBook
   judged = refl
-
-  book-is : inventedBook ≡ readBook
-  book-is = judged-book 36 inventing (replicate 10 0) inOrderRead readBook judged
-
-  held : Guarantees (outcomeOf (runs 36 inventing (replicate 10 0) inOrderRead .system)) inventedBook
-  held = applied 36 inventing d (replicate 10 0) inOrderRead (ap (λ (j : Judged). j .passed) judged)
-
-  whole : WhenAllFinished (outcomeOf (runs 36 inventing (replicate 10 0) inOrderRead .system)) inventedBook
-  whole = held .whenAllFinished (subst AllFinished (sym book-is) read-finished)
 
   abbrev reported : ℕ → Answer
   reported n = Accepted (record { 0 = n }) (record { messages = f 1; bytes = g 1; completed = k 1 }) 1
 
-  answers-are : invented ≡ reported 0 ∷ reported 1 ∷ []
+  answers-are : inventing .answers ≡ reported 0 ∷ reported 1 ∷ []
   unfolding computing inOrderRead invents reporting
   answers-are = refl
 
+  abbrev answering : List Answer → Outcome
+  answering answers = record {
+    answers = answers;
+    memory = inventing .memory;
+    unreleasedFrames = unreleased (inventing .card .window);
+  }
+
+  held : Guarantees (answering (reported 0 ∷ reported 1 ∷ [])) readBook
+  held =
+      subst (λ (answers : List Answer). Guarantees (answering answers) readBook) answers-are
+      (applied-read (invents f g k) d judged)
+
   sums-told : (f 1 + (f 1 + 0) ≡ 2) × (g 1 + (g 1 + 0) ≡ 2) × (k 1 + (k 1 + 0) ≡ 2)
   unfolding readBook messagesIn ofTransaction allMessagesIn needed dataBytes completeCount sumOver
-  sums-told = (
-    ap messagesSum (sym answers-are) ∙ held .messagesAgree ∙ ap (λ (b : Book). length (acceptedMessages b)) book-is,
-    ap bytesSum (sym answers-are) ∙ held .bytesAgree ∙ ap (λ (b : Book). dataBytes (acceptedMessages b)) book-is,
-    ap completeSum (sym answers-are) ∙ held .completeAgree
-        ∙ ap (λ (b : Book). completeCount 0 (b .transactions) (acceptedMessages b)) book-is,
-  )
+  sums-told = (held .messagesAgree, held .bytesAgree, held .completeAgree)
 
   whole-sums-told : (f 1 + (f 1 + 0) ≡ 2) × (g 1 + (g 1 + 0) ≡ 2) × (k 1 + (k 1 + 0) ≡ 2)
   unfolding readBook messagesIn ofTransaction needed dataBytes neededBy bytesBy sumOver
-  whole-sums-told = (
-    ap messagesSum (sym answers-are) ∙ whole .messagesWhole ∙ ap (λ (b : Book). neededBy (b .transactions)) book-is,
-    ap bytesSum (sym answers-are) ∙ whole .bytesWhole
-        ∙ ap (λ (b : Book). bytesBy 0 (b .transactions) (addedMessages b)) book-is,
-    ap completeSum (sym answers-are) ∙ whole .completeWhole ∙ ap (λ (b : Book). length (b .transactions)) book-is,
-  )
+  whole-sums-told =
+      let w = held .whenAllFinished read-finished in
+      (w .messagesWhole, w .bytesWhole, w .completeWhole)
 
 -- ---- hosts with one fault
 
@@ -353,25 +343,17 @@ not-completesEarly d =
     omega arith
 
 -- Both transactions are finished, and no completion is written.
-module _ (d : Demand3For (withHost neverCompletes)) where
-  never-judged : judge 36 (withHost neverCompletes) (replicate 10 0) inOrderRead
-      ≡ record { passed = true; book = readBook }
-  unfolding computing inOrderRead neverCompletes readBook
-  never-judged = refl
-
-  never-book : booked 36 (withHost neverCompletes) (replicate 10 0) inOrderRead ≡ readBook
-  never-book = judged-book 36 (withHost neverCompletes) (replicate 10 0) inOrderRead readBook never-judged
-
-  never-memory : runs 36 (withHost neverCompletes) (replicate 10 0) inOrderRead .system .memory ≡ serialMemory readBook
-  never-memory =
-      applied 36 _ d (replicate 10 0) inOrderRead (ap (λ (j : Judged). j .passed) never-judged)
-      .whenAllFinished (subst AllFinished (sym never-book) read-finished) .memoryInTurn
-      ∙ ap serialMemory never-book
+never-judged : judge 36 (withHost neverCompletes) (replicate 10 0) inOrderRead
+    ≡ record { passed = true; book = readBook }
+unfolding computing inOrderRead neverCompletes readBook
+never-judged = refl
 
 not-neverCompletes : Demand3For (withHost neverCompletes) → ⊥
 unfolding computing inOrderRead neverCompletes readBook
 not-neverCompletes d =
-    let z : _≡_ {A = ℕ} 0 1 = ap (λ m. getD m 0 0) (never-memory d) in
+    let z : _≡_ {A = ℕ} 0 1 =
+    ap (λ m. getD m 0 0)
+    (applied-read neverCompletes d never-judged .whenAllFinished read-finished .memoryInTurn) in
     omega arith
 
 oneOfTwo : List Event
