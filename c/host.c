@@ -254,7 +254,7 @@ static void check_two_messages(void)
     lay_out_two(frame);
     for (unsigned trailing = 0; trailing <= 255; trailing++) {
         struct layout want = both;
-        if (trailing != 1) {
+        if (trailing == 0) {
             want.messages = 1;
             want.data_bytes = 1;
         }
@@ -263,7 +263,7 @@ static void check_two_messages(void)
     }
     frame[FIRST + TRAILING] = 1;
     for (unsigned trailing = 0; trailing <= 255; trailing++) {
-        struct layout want = trailing == 1 ? refused(LW_REFUSED_PAST_FRAME_END) : both;
+        struct layout want = trailing == 0 ? both : refused(LW_REFUSED_PAST_FRAME_END);
         frame[SECOND + TRAILING] = (uint8_t)trailing;
         check_layout(trailing, frame, sizeof frame, want);
     }

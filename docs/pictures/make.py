@@ -199,7 +199,7 @@ def message_header(p, x, y):
     p.text(x, y - 24, "Message header, 24 bytes; offsets from its own start", 15, "start", bold=True)
     strip(p, x, y, 40, MESSAGE_HEADER, GREEN)
     p.lines(x, y + 88, [
-        "trailing: 1 where another message follows, 0 at the last; 1 is read as \"another follows\", all else as \"last\"",
+        "trailing: written 1 where another message follows, 0 at the last; 0 is read as \"last\", all else as \"another follows\"",
         "unused: written 0, ignored on reading",
         "data: follows the header at once, as many bytes as data length says",
         "completion: its 4-byte value goes to its address, straight after the data of the message that completes the transaction",

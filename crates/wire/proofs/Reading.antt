@@ -2,13 +2,13 @@
 -- as. Assumes nothing.
 use mathlib.Core.Path.{_≡_, refl, sym, ap, _∙_}
 use mathlib.Core.Logic.{_≢_}
-use mathlib.Core.Bool.{Bool, true, false, cond, true≢false}
+use mathlib.Core.Bool.{Bool, true, false, cond, not, true≢false}
 use mathlib.Core.List.{List, [], _∷_}
 use mathlib.Core.Option.{Option, none, some}
 use Prim.Native.Nat.{ℕ, suc, _+_, _≤_, _<_}
 use native.Mathlib.Decide.{decLe}
 use native.Mathlib.Omega.{arith}
-use borrow.Author.Tests.{lt-ltb, le-ltb, le-leb, lt-leb}
+use borrow.Author.Tests.{lt-ltb, le-ltb, le-leb, lt-leb, ne-eqb}
 use lib.ListN.{length}
 use Rattle.octets.specs.Octets.{field}
 use Rattle.wire.specs.Format.{Message, nextHeader}
@@ -31,6 +31,16 @@ none≢some : {x : List Message} → _≡_ {A = Option (List Message)} none (som
 none≢some e =
     let z : _≡_ {A = ℕ} 0 1 = cc in
     omega arith
+
+-- ---- the trailing byte
+
+pub follows-not-0 : (b : ℕ) → b ≢ 0 → follows b ≡ true
+unfolding follows
+follows-not-0 b h = ap not (ne-eqb b 0 h)
+
+pub follows-at-0 : follows 0 ≡ false
+unfolding follows
+follows-at-0 = refl
 
 -- ---- the heading
 

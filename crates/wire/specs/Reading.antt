@@ -37,9 +37,9 @@ addressed own peer f = eqb (destination f) own && eqb (source f) peer
 unfoldable pub acknowledges : List ℕ → ℕ → Bool
 acknowledges f n = inRange frameSpace (ackStart f) (ackCount f) n
 
--- What a trailing byte means: whether another message follows.
+-- What a trailing byte means: 0 is the last message, and all else says that another follows.
 unfoldable pub follows : ℕ → Bool
-follows b = eqb b 1
+follows b = not (eqb b 0)
 
 -- The message whose header stands at an offset, and the end of its data.
 abbrev pub dataEnd : List ℕ → ℕ → ℕ

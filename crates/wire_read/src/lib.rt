@@ -107,7 +107,7 @@ pub fn message_at(f: &[u8], at: usize) -> Found
     Found::Whole(
         header_in(f, at),
         len,
-        f[at + wire::TRAILING_AT] == 1,
+        f[at + wire::TRAILING_AT] != 0,
         wire::next_header(end),
     )
 }

@@ -252,7 +252,10 @@ impl Aim {
                 frame.extend(self.rng.bytes(length));
             }
             4 => {
-                frame = with_message(&frame);
+                frame = with_messages(&frame);
+                let any = self.rng.next_u8();
+                frame[33] = self.rng.pick(&[0, 1, 2, 128, 255, any]);
+                frame[65] = self.rng.pick(&[0, 0, 0, 1, 2, 128, 255, any]);
                 let cut = self.rng.pick(&[0, 0, 1]);
                 frame.truncate(frame.len() - cut);
             }
@@ -264,8 +267,9 @@ impl Aim {
     }
 }
 
-/// A frame that carries a message beside its acknowledgements.
-fn with_message(head: &[u8]) -> Vec<u8> {
+/// A frame that carries two messages beside its acknowledgements, their headers at 10
+/// and 42.
+fn with_messages(head: &[u8]) -> Vec<u8> {
     let message = Message {
         transaction: 0,
         completion_address: 0,
@@ -274,7 +278,7 @@ fn with_message(head: &[u8]) -> Vec<u8> {
         data_address: 0,
         data: &[1, 2, 3],
     };
-    let mut frame = wire::write_frame(0, 0, 0, &[message]);
+    let mut frame = wire::write_frame(0, 0, 0, &[message, message]);
     frame[..9].copy_from_slice(&head[..9]);
     frame
 }

@@ -9,7 +9,9 @@ use crate::host::{Answer, Host, LONGEST_RUN, Terms};
 use crate::refusal;
 use crate::replay::{MEMORY, OWN, PEER};
 use crate::rng::Rng;
-use crate::wire::{FRAME_HEADER, LONGEST_FRAME, MESSAGE_HEADER, Message, next_header, write_frame};
+use crate::wire::{
+    FRAME_HEADER, LONGEST_FRAME, MESSAGE_HEADER, Message, TRAILING, next_header, write_frame,
+};
 use std::collections::{BTreeSet, VecDeque};
 use std::rc::Rc;
 
@@ -305,12 +307,24 @@ impl Traffic {
         }
         let mut frame = self.guided_frame();
         let mut family = "guided";
+        if self.rng.chance(1, 4) {
+            self.mark_as_another_maker(&mut frame);
+        }
         while self.rng.chance(1, 8) {
             frame = self.damaged(frame);
             family = "guided and damaged";
         }
         self.give(&frame);
         (family, None)
+    }
+
+    /// Another maker's card announces a message by any byte but 0.
+    fn mark_as_another_maker(&mut self, frame: &mut [u8]) {
+        for header in headers(frame) {
+            if frame[header + TRAILING] > 0 {
+                frame[header + TRAILING] = self.rng.between(1, 255) as u8;
+            }
+        }
     }
 
     /// Lets the host have the frame and spells it.
@@ -925,7 +939,10 @@ impl Traffic {
                 let address = self.edge(8).to_le_bytes();
                 frame[header + 16..header + 20].copy_from_slice(&address);
             }
-            13 => frame[header + 23] = self.rng.pick(&[0, 1, 2, 3, 0x80, 0xff]),
+            13 => {
+                let any = self.rng.next_u8();
+                frame[header + TRAILING] = self.rng.pick(&[0, 0, 1, 2, 0x80, 0xff, any, any]);
+            }
             14 => {
                 let length = self.rng.pick(&[0u16, 1, 8, 255, 256, 8_966, 65_535]);
                 frame[header + 20..header + 22].copy_from_slice(&length.to_le_bytes());
@@ -1045,7 +1062,7 @@ fn headers(frame: &[u8]) -> Vec<usize> {
     while let Some(header) = frame.get(at..at + MESSAGE_HEADER) {
         headers.push(at);
         let length = u16::from_le_bytes([header[20], header[21]]);
-        if header[23] != 1 {
+        if header[TRAILING] == 0 {
             break;
         }
         at = next_header(at + MESSAGE_HEADER + usize::from(length));

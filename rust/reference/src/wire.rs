@@ -149,9 +149,10 @@ fn read_messages(frame: &[u8]) -> Result<Vec<Message<'_>>, u8> {
     }
 }
 
-/// Whether a trailing byte says that another message follows (W10).
+/// Whether a trailing byte says that another message follows (W10): 0 is the
+/// last message, all else announces one more.
 pub fn follows(trailing: u8) -> bool {
-    trailing == 1
+    trailing > 0
 }
 
 /// Where the header after data that ends at `data_end` starts (W12). The
@@ -452,17 +453,19 @@ mod tests {
     }
 
     #[test]
-    fn only_1_in_the_trailing_byte_means_another() {
+    fn only_0_in_the_trailing_byte_means_the_last() {
         let mut frame = two_messages();
         for trailing in 0..=255 {
             frame[33] = trailing;
-            let expected = if trailing == 1 { 2 } else { 1 };
+            let expected = if trailing == 0 { 1 } else { 2 };
             assert_eq!(layout(&frame).unwrap().messages, expected, "{trailing}");
         }
         // Another one is announced and is not there.
         frame[33] = 1;
-        frame[65] = 1;
-        assert_eq!(layout(&frame), Err(5));
+        for trailing in 1..=255 {
+            frame[65] = trailing;
+            assert_eq!(layout(&frame), Err(5), "{trailing}");
+        }
     }
 
     #[test]

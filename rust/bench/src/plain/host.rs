@@ -232,7 +232,7 @@ impl Host {
             self.places[messages] = place;
             messages += 1;
             bytes += header.length;
-            if header.trailing != 1 {
+            if header.trailing == 0 {
                 break 0;
             }
             at = next_header(end);
@@ -347,7 +347,7 @@ pub(super) fn is_whole(frame: &[u8], mut at: usize) -> bool {
         if end > frame.len() {
             return false;
         }
-        if header.trailing != 1 {
+        if header.trailing == 0 {
             return true;
         }
         at = next_header(end);

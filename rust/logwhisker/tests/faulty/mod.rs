@@ -63,8 +63,10 @@ faults! {
     LengthIn8Bits,
     /// The data length is read one field early.
     LengthTwoBytesEarly,
-    /// Any trailing byte but 0 means another message.
-    TrailingNonZero,
+    /// Only a trailing byte of 1 means another message.
+    TrailingOnly1,
+    /// A trailing byte of 255 means the last message.
+    Trailing255IsLast,
     /// The lowest bit of the trailing byte means another message.
     TrailingLowestBit,
     /// The trailing byte is read one byte early.
@@ -267,11 +269,12 @@ impl Reader<'_> {
 
             let trailing = self.byte(at + 23);
             let another = match self.fault {
-                Some(Fault::TrailingNonZero) => trailing != 0,
+                Some(Fault::TrailingOnly1) => trailing == 1,
+                Some(Fault::Trailing255IsLast) => trailing != 0 && trailing != 255,
                 Some(Fault::TrailingLowestBit) => trailing % 2 == 1,
-                Some(Fault::TrailingOneByteEarly) => self.byte(at + 22) == 1,
+                Some(Fault::TrailingOneByteEarly) => self.byte(at + 22) != 0,
                 Some(Fault::TrailingIgnored) => data_end < length,
-                _ => trailing == 1,
+                _ => trailing != 0,
             };
             let mut next = data_end + usize::from(self.has(Fault::AlwaysAGap));
             let (multiple, rest) = match self.fault {

@@ -146,7 +146,7 @@ faults! {
     // Layout.
     LongestOneLess => Output,
     LongestOneMore => Output,
-    TrailingNonZero => Output,
+    TrailingOnly1 => Output,
     RoundedFromStart => Output,
 
     // Bytes.
@@ -652,8 +652,8 @@ impl Faulty {
             *at += 1;
         }
         Some(match self.fault {
-            Some(Fault::TrailingNonZero) => header[23] != 0,
-            _ => header[23] == 1,
+            Some(Fault::TrailingOnly1) => header[23] == 1,
+            _ => header[23] != 0,
         })
     }
 

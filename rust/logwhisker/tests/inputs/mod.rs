@@ -301,7 +301,7 @@ impl<V: FnMut(&Input) -> ControlFlow<()>> Generator<V> {
                 let data = self.rng.below(40);
                 put_u16(&mut frame, header + DATA_LENGTH, data as u16);
                 if self.rng.chance(7, 8) {
-                    frame[header + TRAILING] = 1;
+                    frame[header + TRAILING] = self.rng.pick(&[1, 1, 2, 128, 255]);
                 }
                 header = first_header_from(header + MESSAGE_HEADER + data);
             }
@@ -323,9 +323,9 @@ impl<V: FnMut(&Input) -> ControlFlow<()>> Generator<V> {
                 for trailing in 0..=255 {
                     frame[at] = trailing;
                     let known = match (trailing, is_last) {
-                        (1, false) => good.known(),
-                        (1, true) => Err(5),
-                        _ => good.known_of_first(message + 1),
+                        (0, _) => good.known_of_first(message + 1),
+                        (_, false) => good.known(),
+                        (_, true) => Err(5),
                     };
                     self.give(family, &frame, Some(known))?;
                 }

@@ -241,20 +241,25 @@ fn messages(script: &mut Script) {
     script.frame(6, &[at(4_092, &[1, 2, 3, 4], 4_092)], "A 6 1 4 1");
     script.frame(7, &[at(0, &[], 0)], "R 8");
     script.frame(7, &[bare(6)], "A 7 1 0 1");
-    // Unused fields, the gap, other trailing bytes and junk behind are ignored.
+    // Unused fields, the gap and junk behind are ignored. Any trailing byte but 0
+    // announces another message, also one that is not there.
     let mut frame = write_frame(1, 2, 8, &[part(7, 2, &[1]), part(7, 2, &[2, 3])]);
     frame[24..26].fill(0xee);
     frame[32] = 0xee;
     frame[35..42].fill(0xee);
-    frame[65] = 2;
     frame.extend([0xee; 5]);
+    for trailing in [2, 128, 255] {
+        frame[65] = trailing;
+        script.line(hex(&frame), "R 5");
+    }
+    frame[65] = 0;
     script.line(hex(&frame), "A 8 2 3 1");
-    let mut frame = write_frame(1, 2, 9, &[part(8, 2, &[1]), part(8, 2, &[2, 3])]);
+    let mut frame = write_frame(1, 2, 9, &[part(8, 3, &[1]), part(8, 3, &[2, 3])]);
     frame[33] = 255;
     frame[6..9].fill(0xff);
-    script.line(hex(&frame), "A 9 1 1 0");
+    script.line(hex(&frame), "A 9 2 3 0");
     // Several messages of several transactions, in any order.
-    let (eight, nine) = (part(8, 2, &[2, 3]), part(9, 3, &[4]));
+    let (eight, nine) = (part(8, 3, &[2, 3]), part(9, 3, &[4]));
     script.frame(10, &[nine, eight, nine], "A 10 3 4 1");
     script.frame(12, &[nine], "A 12 1 1 1");
     script.frame(11, &[three, part(3, 1_000, &[7; 8])], "A 11 2 8 0");
