@@ -1,5 +1,5 @@
 // What the replay says of one line: the host's answer to the frame that it spells, the answer's text, and the totals.
-// Assumes nothing. It promises what specs/Report.antt says; proofs/Lines.antt shows it for the line's characters.
+// Assumes nothing. It promises what specs/Report.antt says.
 use hex_line::Line;
 use host::Answer;
 use host::Refusal;
@@ -9,6 +9,9 @@ ghost use Rattle.text_answer.specs.AnswerLine.{lineEnd, withLine};
 ghost use Rattle.host_words.specs.Words.{pairOf};
 ghost use Rattle.replay_line.specs.Report.{answeredLine, letterOf, numbersOf, totalled};
 
+// Bytes that a frame can have. A line that spells more is refused whatever they are, so that no more have to be held.
+pub const FRAME_MOST: usize = 9000;
+
 // Sums over accepted frames.
 pub struct Totals {
     pub messages: u64,
@@ -16,7 +19,8 @@ pub struct Totals {
     pub completed: u64,
 }
 
-// Answers a line that has ended, its bytes at the start of frame; the host is in words.
+// Answers a line that has ended, its bytes at the start of frame, which needs no room for more than FRAME_MOST; the host
+// is in words.
 pub fn answer_line(words: &mut [u64; 67], line: Line, frame: &[u8], memory: &mut [u8]) -> Answer
     ensures { λ r. ⌜ r
         ≡ answeredLine (pairOf (now (words .entry))) line (now (frame .entry)) (now (memory .entry)) .answer ⌝ }
@@ -28,6 +32,12 @@ pub fn answer_line(words: &mut [u64; 67], line: Line, frame: &[u8], memory: &mut
     if line.is_refused() {
         return Answer::Refused(Refusal {
             number: refusal::BAD_LINE,
+            place: 0,
+        });
+    }
+    if FRAME_MOST < line.len {
+        return Answer::Refused(Refusal {
+            number: refusal::FRAME_TOO_LONG,
             place: 0,
         });
     }

@@ -1,6 +1,7 @@
--- `replay_line::answer_line`: 14, or what the host says.
+-- `replay_line::answer_line`: 14, then 2, or what the host says.
 -- Assumes nothing.
 use mathlib.Core.Path.{_≡_, sym, ap, _∙_}
+use borrow.Author.Tests.{lt-ltb, le-ltb}
 use lib.ListN.{take}
 use Rattle.host.specs.Host.{Received, unchanged, refused, receiveOf}
 use Rattle.host_words.specs.Words.{pairOf}
@@ -20,11 +21,22 @@ is-refused-requires c κs = search needs
 returns : tie.Need-returns
 unfolding answeredLine
 returns c =
-    let c4 = c .before .before .before .before in
-    let a = c4 .args in
+    let a = c .before .before .before .before .args in
     let p = pairOf (a .words .now) in
     let e : answeredLine p (a .line) (a .frame .now) (a .memory .now) ≡ unchanged p (a .memory .now) (refused 14 0) =
     rw (← c .before .is-refused .ensures, c .if1 .taken) in (
+      sym (ap (λ (r : Received). r .answer) e),
+      (sym (ap (λ (r : Received). r .pair) e), sym (ap (λ (r : Received). r .memory) e)),
+    )
+
+returns-2 : tie.Need-returns-2
+unfolding answeredLine
+returns-2 c =
+    let c2 = c .before .before in
+    let a = c2 .before .before .before .before .args in
+    let p = pairOf (a .words .now) in
+    let e : answeredLine p (a .line) (a .frame .now) (a .memory .now) ≡ unchanged p (a .memory .now) (refused 2 0) =
+    rw (← c2 .before .is-refused .ensures, c2 .if1 .left, lt-ltb 9000 (a .line .len) (c .if2 .taken)) in (
       sym (ap (λ (r : Received). r .answer) e),
       (sym (ap (λ (r : Received). r .pair) e), sym (ap (λ (r : Received). r .memory) e)),
     )
@@ -38,17 +50,17 @@ receive-requires c κs = search needs
 same-length : tie.Need-same-length
 same-length c = search needs
 
-returns-2 : tie.Need-returns-2
+returns-3 : tie.Need-returns-3
 unfolding answeredLine
-returns-2 c =
+returns-3 c =
     let c4 = c .before .before .before .before in
-    let c5 = c4 .before .before in
-    let c6 = c5 .before in
-    let a = c6 .before .before .before .args in
+    let c6 = c4 .before .before in
+    let c8 = c6 .before .before in
+    let a = c8 .before .before .before .before .args in
     let p = pairOf (a .words .now) in
     let e : answeredLine p (a .line) (a .frame .now) (a .memory .now)
     ≡ receiveOf p (take (a .line .len) (a .frame .now)) (a .memory .now) =
-    rw (← c6 .is-refused .ensures, c5 .if1 .left) in
+    rw (← c8 .before .is-refused .ensures, c8 .if1 .left, le-ltb 9000 (a .line .len) (c6 .if2 .left)) in
     let f = c4 .front .ensures in
     let k = c .before .before .receive .ensures in (
       (rw f at (k .0)) ∙ sym (ap (λ (r : Received). r .answer) e),
@@ -61,4 +73,11 @@ returns-2 c =
 pub answer-line-spec : {M : Type 1} → statement M
 answer-line-spec =
     tie.close
-    (tie.spec is-refused-requires returns front-requires receive-requires same-length returns-2)
+    (tie.spec
+    is-refused-requires
+    returns
+    returns-2
+    front-requires
+    receive-requires
+    same-length
+    returns-3)
