@@ -1,34 +1,16 @@
-// Replays a capture: reads lines of hexadecimal, one frame a line, from standard input, gives each frame to a charging
-// host of own ID 1 and peer 2, and writes the answers, and last the totals. All that matters is in the libraries below;
-// what is assumed is that read and write do what their pages say. Where one of them fails, that is said on standard
-// error and no totals are written: a program has no exit status, so it is the last line that tells a whole replay.
-use hex_line::Line;
+// Replays a capture: reads lines of hexadecimal, one frame a line, from standard input, and writes the answers of a
+// charging host of own ID 1 and peer 2, and last the totals. It feeds what it reads to the crate replay_feed, piece by
+// piece, and writes the text of what that answers; what is assumed is that read and write do what their pages say. Where
+// one of them fails, that is said on standard error and no totals are written: a program has no exit status, so it is the
+// last line that tells a whole replay.
 use libc::STDIN_FILENO;
 use libc::STDOUT_FILENO;
-use replay_line::Totals;
+use replay_feed::Reply;
 ghost use mathlib.Core.Path.{_≡_};
-ghost use Prim.Native.Nat.{_≤_, _<_};
+ghost use Prim.Native.Nat.{_≤_};
 ghost use lib.ListN.{length};
 
-// The host's own ID.
-const OWN: u16 = 1;
-
-// The ID of the card that it receives from.
-const PEER: u16 = 2;
-
-// Lines that are answered.
-const LINES_MOST: u32 = 1000000;
-
-// Where the replay stands between two pieces of the input; failed says that reading or writing did.
-struct Replay {
-    pub line: Line,
-    pub totals: Totals,
-    pub lines: u32,
-    pub used: usize,
-    pub failed: bool,
-}
-
-// How much of the output buffer is used, and whether an answer was lost.
+// How much of the output buffer is used, and whether reading or writing failed, or an answer was lost.
 struct Room {
     pub used: usize,
     pub failed: bool,
@@ -75,53 +57,49 @@ fn make_room(out: &[u8], used: usize, failed: bool) -> Room {
     }
 }
 
-// Where the replay stands after a line that has ended: answered, and the next one not begun.
-fn answer_ended(
-    state: Replay,
-    words: &mut [u64; 67],
-    frame: &[u8],
-    memory: &mut [u8],
-    out: &mut [u8],
-) -> Replay
-    requires { ⌜ state .lines < 1000000 ⌝ }
-{
-    let line = state.line;
-    let totals = state.totals;
-    let answer = replay_line::answer_line(words, line, frame, memory);
-    let room = make_room(out, state.used, state.failed);
-    let used = replay_line::put_answer(out, room.used, answer);
-    Replay {
-        line: Line::start(),
-        totals: totals.with(answer),
-        lines: state.lines + 1,
-        used,
-        failed: room.failed,
+// Puts the answer of a line, if there is one, into the output buffer.
+fn put_reply(out: &mut [u8], room: Room, reply: Reply) -> Room {
+    match reply {
+        Reply::Answered(answer) => {
+            let made = make_room(out, room.used, room.failed);
+            let used = replay_line::put_answer(out, made.used, answer);
+            Room {
+                used,
+                failed: made.failed,
+            }
+        }
+        Reply::Nothing => room,
+        Reply::Refused(_) => room,
     }
 }
 
-// Takes in the characters of a piece, and answers each line that ends in it.
+// Feeds a piece until it is taken whole, and puts the answer of each line that ends in it into the output buffer. No
+// call on an open replay takes nothing of what is left; the test is there since a loop that is proved has to end.
 fn take_piece(
-    at_start: Replay,
+    at_start: Room,
     piece: &[u8],
+    place: &mut [u64; 9],
     words: &mut [u64; 67],
-    frame: &mut [u8],
-    memory: &mut [u8],
+    frame: &mut [u8; 9000],
+    memory: &mut [u8; 4096],
     out: &mut [u8],
-) -> Replay {
-    let mut state = at_start;
+) -> Room {
+    let mut room = at_start;
     let mut at = 0;
-    while at < piece.len() && state.lines < LINES_MOST {
-        let line = state.line;
-        let taken = hex_feed::take_in(line, frame, piece, at);
-        let now = taken.line;
-        at = taken.at;
-        state.line = now;
-        if taken.ended {
-            let next = answer_ended(state, words, frame, memory, out);
-            state = next;
+    while at < piece.len() {
+        let fed = replay_feed::feed(place, words, frame, memory, &piece[at..]);
+        if fed.taken == 0 {
+            return room;
         }
+        if piece.len() - at < fed.taken {
+            return room;
+        }
+        at += fed.taken;
+        let reply = fed.reply;
+        let next = put_reply(out, room, reply);
+        room = next;
     }
-    state
+    room
 }
 
 // Reads once.
@@ -142,90 +120,68 @@ fn read_some(piece: &mut [u8]) -> Got
     }
 }
 
-// Where the replay stands once reading has failed: the answers so far are written, and it goes no further.
-fn stop(state: Replay, out: &[u8]) -> Replay {
-    if !state.failed {
-        write_out(out, state.used);
+// Where the program stands once reading has failed: the answers so far are written, and it goes no further.
+fn stop(room: Room, out: &[u8]) -> Room {
+    if !room.failed {
+        write_out(out, room.used);
     }
-    let line = state.line;
-    let totals = state.totals;
-    Replay {
-        line,
-        totals,
-        lines: state.lines,
+    Room {
         used: 0,
         failed: true,
     }
 }
 
-// Whether nothing more is to be read.
-fn is_over(state: Replay) -> bool {
-    if state.failed {
-        return true;
-    }
-    LINES_MOST <= state.lines
-}
-
 // Takes in the input piece by piece, until it ends or enough lines are answered. A loop that is proved has to end, and
 // nothing says that the input does: no run uses these turns up.
 fn read_all(
-    at_start: Replay,
     piece: &mut [u8],
+    place: &mut [u64; 9],
     words: &mut [u64; 67],
-    frame: &mut [u8],
-    memory: &mut [u8],
+    frame: &mut [u8; 9000],
+    memory: &mut [u8; 4096],
     out: &mut [u8],
-) -> Replay {
-    let mut state = at_start;
+) -> Room {
+    let mut room = Room {
+        used: 0,
+        failed: false,
+    };
     let mut turns = u64::MAX;
     while turns > 0 {
         turns -= 1;
         let got = read_some(piece);
         if got.failed {
-            return stop(state, out);
+            return stop(room, out);
         }
         if got.count == 0 {
-            return state;
+            return room;
         }
-        let next = take_piece(state, &piece[..got.count], words, frame, memory, out);
-        state = next;
-        if is_over(state) {
-            return state;
+        let next = take_piece(room, &piece[..got.count], place, words, frame, memory, out);
+        room = next;
+        if room.failed {
+            return room;
+        }
+        if replay_feed::is_full(place) {
+            return room;
         }
     }
-    state
-}
-
-// A last line without a newline counts if it has a character.
-fn end_line(
-    at_end: Replay,
-    words: &mut [u64; 67],
-    frame: &mut [u8],
-    memory: &mut [u8],
-    out: &mut [u8],
-) -> Replay {
-    if at_end.failed {
-        return at_end;
-    }
-    let rest = at_end.line;
-    if rest.is_empty() {
-        return at_end;
-    }
-    take_piece(at_end, b"\n", words, frame, memory, out)
+    room
 }
 
 // The last line, and then the totals.
 fn finish(
-    at_end: Replay,
+    at_end: Room,
+    place: &mut [u64; 9],
     words: &mut [u64; 67],
-    frame: &mut [u8],
-    memory: &mut [u8],
+    frame: &[u8; 9000],
+    memory: &mut [u8; 4096],
     out: &mut [u8],
 ) {
-    let state = end_line(at_end, words, frame, memory, out);
-    let t = state.totals;
+    let closed = replay_feed::close(place, words, frame, memory);
+    let t = closed.totals;
     let numbers = [t.messages, t.bytes, t.completed];
-    let room = make_room(out, state.used, state.failed);
+    let reply = closed.reply;
+    let last = put_reply(out, at_end, reply);
+    let room = make_room(out, last.used, last.failed);
     if room.failed {
         return;
     }
@@ -234,30 +190,20 @@ fn finish(
 }
 
 fn main() {
+    let mut place = [0u64; 9];
     let mut words = [0u64; 67];
+    let mut frame = [0u8; 9000];
     let mut memory = [0u8; 4096];
-    let mut frame = [0u8; hex_line::KEPT];
     let mut piece = io::large_buffer();
     let mut out = io::large_buffer();
-    logwhisker::open_host(&mut words, OWN, PEER);
-    let start = Replay {
-        line: Line::start(),
-        totals: Totals {
-            messages: 0,
-            bytes: 0,
-            completed: 0,
-        },
-        lines: 0,
-        used: 0,
-        failed: false,
-    };
+    replay_feed::open(&mut place, &mut words, &mut memory);
     let end = read_all(
-        start,
         &mut piece,
+        &mut place,
         &mut words,
         &mut frame,
         &mut memory,
         &mut out,
     );
-    finish(end, &mut words, &mut frame, &mut memory, &mut out);
+    finish(end, &mut place, &mut words, &frame, &mut memory, &mut out);
 }

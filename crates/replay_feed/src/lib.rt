@@ -9,6 +9,7 @@ pub use replay_text::Reply;
 ghost use mathlib.Core.Path.{_≡_};
 ghost use mathlib.Core.Bool.{cond};
 ghost use Prim.Native.Nat.{_<_};
+ghost use lib.Dec.{leb};
 ghost use lib.ListN.{getD, replicate};
 ghost use Rattle.replay_text.specs.Feeding.{atStart, lineAnswer, lineEnded, feed as feedOf, close as closeOf};
 ghost use Rattle.replay_feed.specs.State.{
@@ -185,6 +186,13 @@ pub fn feed(
         reply: Reply::Nothing,
         taken: got.at,
     }
+}
+
+// Whether LINES_MOST lines are answered, so that nothing more is looked at.
+pub fn is_full(place: &[u64; 9]) -> bool
+    ensures { λ r. ⌜ r ≡ leb 1000000 (getD (now (place .entry)) 3 0) ⌝ }
+{
+    LINES_MOST <= place[LINES]
 }
 
 // Marks the replay as closed, and answers the totals.
