@@ -61,6 +61,9 @@ enum lw_refusal {
     LW_REFUSED_ID_ZERO = 13,  /* an end was to be opened with ID 0 */
     LW_REFUSED_BAD_LINE = 14, /* a line of the replay is not whole bytes in hexadecimal */
 
+    /* The replay from fragments. */
+    LW_REFUSED_REPLAY_CLOSED = 17, /* the replay was closed before */
+
     /* A step of the card. */
     LW_REFUSED_TRANSACTION_WINDOW_FULL = 20, /* 32 transactions from the lowest unfinished one on */
     LW_REFUSED_FRAME_WINDOW_FULL = 21,       /* 64 sealed frames are not released */
@@ -105,6 +108,7 @@ static inline const char *lw_refusal_name(uint32_t number)
     case LW_REFUSED_COMPLETION_OUTSIDE_MEMORY: return "completion outside memory";
     case LW_REFUSED_ID_ZERO: return "id zero";
     case LW_REFUSED_BAD_LINE: return "bad line";
+    case LW_REFUSED_REPLAY_CLOSED: return "replay closed";
     case LW_REFUSED_TRANSACTION_WINDOW_FULL: return "transaction window full";
     case LW_REFUSED_FRAME_WINDOW_FULL: return "frame window full";
     case LW_REFUSED_FRAME_FULL: return "frame full";
@@ -132,6 +136,8 @@ static inline const char *lw_refusal_name(uint32_t number)
 #define LW_HOST_WORDS 67
 #define LW_CARD_WORDS 85
 #define LW_ANSWER_WORDS 8
+#define LW_REPLAY_WORDS 9     /* of a replay\'s place */
+#define LW_REPLAY_MEMORY 4096 /* bytes of a replay\'s memory */
 #define LW_DESCRIPTION_WORDS 167
 
 /* The charging host's end of a pair. Open it before anything else. */
@@ -185,6 +191,28 @@ typedef struct lw_description {
     lw_transaction transactions[LW_TRANSACTION_WINDOW]; /* those, nearest the lowest first */
 } lw_description;
 
+/* A replay of a text that comes in fragments. Any content is a state; what is in it
+ * is for the calls below alone. */
+typedef struct lw_replay {
+    uint64_t place[LW_REPLAY_WORDS];
+    uint64_t host[LW_HOST_WORDS];
+    uint8_t frame[LW_LONGEST_FRAME]; /* the line being read, as far as it is held */
+    uint8_t memory[LW_REPLAY_MEMORY];
+} lw_replay;
+
+/* Sums over the accepted frames of a replay. */
+typedef struct lw_totals {
+    uint64_t messages;
+    uint64_t bytes;
+    uint64_t completed;
+} lw_totals;
+
+/* What a call on a replay says of a line; any other number is its refusal. */
+enum lw_reply {
+    LW_NO_LINE = 0,      /* no line ended */
+    LW_LINE_ANSWERED = 1 /* a line ended, and its answer is written */
+};
+
 /* A part of a buffer that the caller lent: bytes that need no copy. */
 typedef struct lw_part {
     const uint8_t *start;
@@ -214,6 +242,17 @@ uint32_t lw_raw_card_show(const lw_card *card, const uint8_t *slots, size_t size
 uint32_t lw_raw_card_choose(const lw_card *card, const uint8_t *slots, size_t size,
                             const uint8_t *acknowledgement, size_t length, uint64_t part[3]);
 
+void lw_raw_replay_open(uint64_t place[LW_REPLAY_WORDS], uint64_t host[LW_HOST_WORDS],
+                        uint8_t memory[LW_REPLAY_MEMORY]);
+uint32_t lw_raw_replay_feed(uint64_t place[LW_REPLAY_WORDS], uint64_t host[LW_HOST_WORDS],
+                            uint8_t frame[LW_LONGEST_FRAME], uint8_t memory[LW_REPLAY_MEMORY],
+                            const uint8_t *fragment, size_t length, size_t *taken,
+                            lw_answer *answer);
+uint32_t lw_raw_replay_close(uint64_t place[LW_REPLAY_WORDS], uint64_t host[LW_HOST_WORDS],
+                             const uint8_t frame[LW_LONGEST_FRAME],
+                             uint8_t memory[LW_REPLAY_MEMORY], lw_answer *answer,
+                             lw_totals *totals);
+
 /* They are handed the structs above as words in a row. */
 #ifdef __cplusplus
 #define LW_SAME_SIZE(type, count) static_assert(sizeof(type) == (count) * sizeof(uint64_t), "words")
@@ -223,6 +262,7 @@ uint32_t lw_raw_card_choose(const lw_card *card, const uint8_t *slots, size_t si
 LW_SAME_SIZE(lw_host, LW_HOST_WORDS);
 LW_SAME_SIZE(lw_card, LW_CARD_WORDS);
 LW_SAME_SIZE(lw_answer, LW_ANSWER_WORDS);
+LW_SAME_SIZE(lw_totals, 3);
 LW_SAME_SIZE(lw_description, LW_DESCRIPTION_WORDS);
 #undef LW_SAME_SIZE
 
@@ -410,6 +450,36 @@ uint32_t lw_message_count(const uint8_t *frame, size_t length);
 /* Sum of the messages' data lengths, 0 to 8,966: headers, gaps and what stands
  * after the last message do not count; 0 if refused, and 0 for a clear flag. */
 uint32_t lw_data_bytes(const uint8_t *frame, size_t length);
+
+/* ---- The replay from fragments ----------------------------------------- */
+
+/* Opens a replay: a host of ID 1 for frames from 2, a memory of zeros, no line read. */
+static inline void lw_replay_open(lw_replay *replay)
+{
+    lw_raw_replay_open(replay->place, replay->host, replay->memory);
+}
+
+/* Feeds a fragment of the text, cut anywhere; fragment may be NULL where length is 0.
+ * It takes the bytes through the first newline and returns LW_LINE_ANSWERED with the
+ * answer of that line. Without a newline, or once 1,000,000 lines are answered, it
+ * takes all and returns LW_NO_LINE. The caller feeds what was not taken again. Once
+ * closed, it takes nothing and returns LW_REFUSED_REPLAY_CLOSED. */
+static inline uint32_t lw_replay_feed(lw_replay *replay, const uint8_t *fragment, size_t length,
+                                      size_t *taken, lw_answer *answer)
+{
+    uint8_t none = 0;
+    return lw_raw_replay_feed(replay->place, replay->host, replay->frame, replay->memory,
+                              length != 0 ? fragment : &none, length, taken, answer);
+}
+
+/* Closes a replay, writes the totals, and returns LW_LINE_ANSWERED with the answer of
+ * a last line without a newline if it has a character, or LW_NO_LINE. Once closed, it
+ * writes nothing and returns LW_REFUSED_REPLAY_CLOSED. */
+static inline uint32_t lw_replay_close(lw_replay *replay, lw_answer *answer, lw_totals *totals)
+{
+    return lw_raw_replay_close(replay->place, replay->host, replay->frame, replay->memory, answer,
+                               totals);
+}
 
 #ifdef __cplusplus
 }

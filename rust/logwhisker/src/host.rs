@@ -41,7 +41,7 @@ pub enum Answer {
 
 impl Answer {
     /// The answer that the library wrote. Each number fits, as a frame has 9,000 bytes at most.
-    fn from_words(words: &[u64; ANSWER_WORDS]) -> Answer {
+    pub(crate) fn from_words(words: &[u64; ANSWER_WORDS]) -> Answer {
         let [
             kind,
             number,

@@ -30,6 +30,7 @@ mod host;
 mod layout;
 pub mod raw;
 mod refusal;
+mod replay;
 
 pub use card::{Card, Chosen};
 pub use host::{Answer, Description, Host, OpenTransaction};
@@ -38,6 +39,7 @@ pub use layout::{
     message_count, source,
 };
 pub use refusal::{Class, Refusal, refusal_class};
+pub use replay::{Replay, Totals};
 
 /// Bytes of a frame header, and of an acknowledgement.
 pub const FRAME_HEADER: usize = 10;

@@ -15,6 +15,13 @@ pub const ANSWER_WORDS: usize = 8;
 /// each of up to 32 open transactions.
 pub const DESCRIPTION_WORDS: usize = 167;
 
+/// Words of a replay's place.
+pub const REPLAY_WORDS: usize = 9;
+/// Bytes of a line that a replay holds.
+pub const REPLAY_FRAME: usize = 9_000;
+/// Bytes of a replay's memory.
+pub const REPLAY_MEMORY: usize = 4_096;
+
 /// Kinds of an answer.
 pub const ACCEPTED: u32 = 1;
 /// See [`ACCEPTED`].
@@ -44,6 +51,25 @@ mod exported {
             frame: *mut u8,
         ) -> u32;
         pub fn lw_raw_host_describe(words: *const u64, description: *mut u64);
+        pub fn lw_raw_replay_open(place: *mut u64, words: *mut u64, memory: *mut u8);
+        pub fn lw_raw_replay_feed(
+            place: *mut u64,
+            words: *mut u64,
+            frame: *mut u8,
+            memory: *mut u8,
+            fragment: *const u8,
+            length: usize,
+            taken: *mut usize,
+            answer: *mut u64,
+        ) -> u32;
+        pub fn lw_raw_replay_close(
+            place: *mut u64,
+            words: *mut u64,
+            frame: *const u8,
+            memory: *mut u8,
+            answer: *mut u64,
+            totals: *mut u64,
+        ) -> u32;
         pub fn lw_raw_card_open(
             words: *mut u64,
             own: u16,
@@ -158,6 +184,67 @@ pub fn host_acknowledge(
 #[inline]
 pub fn host_describe(words: &[u64; HOST_WORDS], description: &mut [u64; DESCRIPTION_WORDS]) {
     unsafe { exported::lw_raw_host_describe(words.as_ptr(), description.as_mut_ptr()) }
+}
+
+/// Opens a replay.
+#[inline]
+pub fn replay_open(
+    place: &mut [u64; REPLAY_WORDS],
+    words: &mut [u64; HOST_WORDS],
+    memory: &mut [u8; REPLAY_MEMORY],
+) {
+    unsafe {
+        exported::lw_raw_replay_open(place.as_mut_ptr(), words.as_mut_ptr(), memory.as_mut_ptr())
+    }
+}
+
+/// Feeds a fragment, and gives 1 with the answer's words, 0, or 17; `taken` is how many
+/// bytes were taken.
+#[inline]
+pub fn replay_feed(
+    place: &mut [u64; REPLAY_WORDS],
+    words: &mut [u64; HOST_WORDS],
+    frame: &mut [u8; REPLAY_FRAME],
+    memory: &mut [u8; REPLAY_MEMORY],
+    fragment: &[u8],
+    taken: &mut usize,
+    answer: &mut [u64; ANSWER_WORDS],
+) -> u32 {
+    unsafe {
+        exported::lw_raw_replay_feed(
+            place.as_mut_ptr(),
+            words.as_mut_ptr(),
+            frame.as_mut_ptr(),
+            memory.as_mut_ptr(),
+            fragment.as_ptr(),
+            fragment.len(),
+            taken,
+            answer.as_mut_ptr(),
+        )
+    }
+}
+
+/// Closes a replay, and gives 1 with the answer's words, or 0, both with the totals; or
+/// 17, and then nothing is written.
+#[inline]
+pub fn replay_close(
+    place: &mut [u64; REPLAY_WORDS],
+    words: &mut [u64; HOST_WORDS],
+    frame: &[u8; REPLAY_FRAME],
+    memory: &mut [u8; REPLAY_MEMORY],
+    answer: &mut [u64; ANSWER_WORDS],
+    totals: &mut [u64; 3],
+) -> u32 {
+    unsafe {
+        exported::lw_raw_replay_close(
+            place.as_mut_ptr(),
+            words.as_mut_ptr(),
+            frame.as_ptr(),
+            memory.as_mut_ptr(),
+            answer.as_mut_ptr(),
+            totals.as_mut_ptr(),
+        )
+    }
 }
 
 /// Opens a card.

@@ -56,6 +56,8 @@ refusals! {
     ID_ZERO = 13,
     /// A replay line is not whole bytes in hexadecimal.
     BAD_LINE = 14,
+    /// The replay was closed before.
+    REPLAY_CLOSED = 17,
     /// The window of 32 transactions is used up.
     TRANSACTION_WINDOW_FULL = 20,
     /// 64 sealed frames are not released.
