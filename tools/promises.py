@@ -17,6 +17,8 @@ import re
 # Under these functions a result or a buffer at exit may be equated: the state that words stand for. What is left open
 # then is what the words do not mean.
 MEANINGS = ("pairOf", "cardOf")
+# The same of several buffers that hold one state together: each is an argument.
+MEANINGS_TOGETHER = ("replayingOf",)
 
 HEAD = re.compile(r'\bpub\s+(?:extern\s+"C"\s+)?fn\s+(\w+)\s*(?:<[^>]*>)?\s*\(')
 # What may be a public function, in whatever form.
@@ -159,7 +161,9 @@ def cases(text, conditions, texts):
     names, and that has one definition, is read in its place."""
     parts = split_at(bare(text), "→")
     if len(parts) > 1:
-        yield from cases(parts[-1], conditions + tuple(bare(part) for part in parts[:-1]), texts)
+        named = tuple(bare(part) for part in parts[:-1])
+        # `(x : T) →` says for all x, which is no condition.
+        yield from cases(parts[-1], conditions + tuple(c for c in named if not re.match(r"[\w' -]+ : ", c)), texts)
         return
     parts = split_at(bare(text), "×")
     if len(parts) > 1:
@@ -207,7 +211,9 @@ def is_left(left, subject, more):
     """Whether the left side of an equation is the subject itself, or what it means."""
     forms = {subject, f"now {subject}"} | set(more)
     forms |= {f"{m} {subject}" for m in MEANINGS} | {f"{m} (now {subject})" for m in MEANINGS}
-    return left in forms
+    meaning, *arguments = split_at(left, " ")
+    together = meaning in MEANINGS_TOGETHER and {subject, f"(now {subject})"} & {a.strip() for a in arguments}
+    return left in forms or bool(together)
 
 
 def speaks_of(side, subject):

@@ -5,10 +5,10 @@ use replay_feed::Reply;
 ghost use mathlib.Core.Path.{_≡_};
 ghost use lib.ListN.{replicate};
 ghost use Rattle.replay_text.specs.Feeding.{feed as feedOf, close as closeOf};
-ghost use Rattle.replay_feed.specs.State.{replayingOf, Opens};
+ghost use Rattle.replay_feed.specs.State.{replayingOf, OpensReplay};
 ghost use Rattle.capi_replay.specs.Replies.{replyNumber, replyWords, totalsUnlessRefused};
 
-// Opens a replay.
+// OpensReplay a replay.
 #[no_mangle]
 pub extern "C" fn lw_raw_replay_open(
     place: &mut [u64; 9],
@@ -16,7 +16,7 @@ pub extern "C" fn lw_raw_replay_open(
     memory: &mut [u8; 4096],
 )
     ensures { λ _. ⌜ now (memory .exit) ≡ replicate 4096 0 ⌝ }
-    ensures { λ _. ⌜ Opens (now (place .exit)) (now (words .exit)) (now (memory .exit)) ⌝ }
+    ensures { λ _. ⌜ OpensReplay (now (place .exit)) (now (words .exit)) (now (memory .exit)) ⌝ }
 {
     replay_feed::open(place, words, memory);
 }

@@ -66,7 +66,7 @@ use Rattle.replay_feed.specs.State.{
   replayingOf,
   fedOf,
   closedOf,
-  Opens,
+  OpensReplay,
 }
 
 -- ---- words written
@@ -296,6 +296,6 @@ module _ (place words frame memory : List ℕ) where
 
 -- ---- opening
 
-pub opens : (words : List ℕ) → pairOf words ≡ fresh 1 2 → Opens (replicate 9 0) words (replicate 4096 0)
+pub opens : (words : List ℕ) → pairOf words ≡ fresh 1 2 → OpensReplay (replicate 9 0) words (replicate 4096 0)
 unfolding atStart memoryAtStart heldOf
 opens words e frame = rw e

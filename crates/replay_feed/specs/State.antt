@@ -55,8 +55,8 @@ abbrev pub replayingOf : List ℕ → List ℕ → List ℕ → List ℕ → Rep
 replayingOf place words frame memory = readingOf place words frame memory (lineOf place)
 
 -- Just opened, whatever the frame buffer has.
-abbrev pub Opens : List ℕ → List ℕ → List ℕ → Type 0
-Opens place words memory = (frame : List ℕ) → replayingOf place words frame memory ≡ atStart
+abbrev pub OpensReplay : List ℕ → List ℕ → List ℕ → Type 0
+OpensReplay place words memory = (frame : List ℕ) → replayingOf place words frame memory ≡ atStart
 
 -- ---- what the calls answer
 

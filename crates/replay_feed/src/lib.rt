@@ -21,7 +21,7 @@ ghost use Rattle.replay_feed.specs.State.{
   readingOf,
   fedOf,
   closedOf,
-  Opens,
+  OpensReplay,
 };
 
 // The host's own ID.
@@ -103,10 +103,10 @@ fn place_of(totals: Totals, lines: u64, closed: u64, line: Line) -> [u64; 9]
     ]
 }
 
-// Opens a replay: its host has ID 1 and the peer 2, and the memory is all zero.
+// OpensReplay a replay: its host has ID 1 and the peer 2, and the memory is all zero.
 pub fn open(place: &mut [u64; 9], words: &mut [u64; 67], memory: &mut [u8; 4096])
     ensures { λ _. ⌜ now (memory .exit) ≡ replicate 4096 0 ⌝ }
-    ensures { λ _. ⌜ Opens (now (place .exit)) (now (words .exit)) (now (memory .exit)) ⌝ }
+    ensures { λ _. ⌜ OpensReplay (now (place .exit)) (now (words .exit)) (now (memory .exit)) ⌝ }
 {
     *place = [0u64; 9];
     *memory = [0u8; 4096];
