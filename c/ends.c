@@ -1012,11 +1012,13 @@ static void check_names(void)
     CHECK_NAME(25, NOT_HELD);
     CHECK_NAME(26, BAD_LIMIT_OR_SLOTS);
     CHECK_NAME(27, DATA_FOR_BARE);
+    check("constant", 17, LW_REFUSED_REPLAY_CLOSED, 17);
+    check("no class", 17, lw_refusal_class(17), LW_CLASS_NONE);
     check("none", 0, strcmp(lw_refusal_name(0), "none") == 0, 1);
     for (uint32_t number = 1; number < 300; number++)
-        check("unknown exactly without a class", number,
+        check("unknown exactly without a class, and not 17", number,
               strcmp(lw_refusal_name(number), "unknown") == 0,
-              lw_refusal_class(number) == LW_CLASS_NONE);
+              number != 17 && lw_refusal_class(number) == LW_CLASS_NONE);
     check("unknown", 0, strcmp(lw_refusal_name(UINT32_MAX), "unknown") == 0, 1);
     end_group("names of refusals");
 }

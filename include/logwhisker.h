@@ -77,7 +77,7 @@ enum lw_refusal {
 
 /* What a refusal is about. */
 enum lw_class {
-    LW_CLASS_NONE = 0,    /* the number is not that of a refusal */
+    LW_CLASS_NONE = 0,    /* no refusal, or 17, which has no class */
     LW_CLASS_WIRE = 1,    /* the frame as a whole: 1 to 6 */
     LW_CLASS_MESSAGE = 2, /* one message: 7 to 12 */
     LW_CLASS_CALLER = 3,  /* what the caller asked for: 13 and 14 */
@@ -85,7 +85,7 @@ enum lw_class {
 };
 
 /* The class of a refusal number, as one of enum lw_class. Any number may be asked
- * for; those that are no refusal above are LW_CLASS_NONE. */
+ * for; 17 and those that are no refusal above are LW_CLASS_NONE. */
 uint32_t lw_refusal_class(uint32_t number);
 
 /* A few words for a refusal number, as a static string: its constant's name in

@@ -286,9 +286,10 @@ fn class_agrees_with_the_reference() {
 /// Names, numbers and classes of the wrapper are those of the rules.
 #[test]
 fn refusals_by_name() {
-    let classed = (0..1_000).filter(|number| refusal::class(*number) != Class::None);
+    // 17 is the one refusal without a class.
+    let due = (0..1_000).filter(|number| *number == 17 || refusal::class(*number) != Class::None);
     let named = Refusal::ALL.iter().map(|refusal| refusal.number());
-    assert!(named.eq(classed));
+    assert!(named.eq(due));
     for refusal in Refusal::ALL {
         let class = refusal::class(refusal.number());
         assert_eq!(refusal.class() as u32, class as u32, "{refusal}");
