@@ -653,8 +653,8 @@ FLOORS = {
     "theorem": ("theorem: exactly once, over lists of calls; no code", VIOLET, ("ground", "wire", "host", "card")),
     "face": ("face: what a Rattle caller uses", TEAL, ("ground", "wire", "host", "card", "theorem")),
     "text": ("text: hexadecimal and decimal lines", ROSE, ("kit", "ground")),
-    "replay": ("replay: the program", ROSE, ("kit", "ground", "host", "face", "text")),
-    "capi": ("C: what the header is made of", TEAL, ("ground", "wire", "host", "card", "theorem", "face")),
+    "replay": ("replay: a text, whole and in fragments; the program", ROSE, ("kit", "ground", "wire", "host", "face", "text")),
+    "capi": ("C: what the header is made of", TEAL, ("kit", "ground", "wire", "host", "card", "theorem", "face", "text", "replay")),
 }
 NAMED = {
     "seq": "ground", "bitmap": "ground", "octets": "ground", "refusal": "ground", "delivery": "theorem", "edges": "theorem",
