@@ -4,7 +4,6 @@ use mathlib.Core.Bool.{cond}
 use mathlib.Core.List.{List, [], _∷_}
 use lib.Dec.{ltb}
 use Rattle.host.specs.Host.{answerWords}
-use Rattle.replay_line.specs.declared.Totals.{Totals}
 use Rattle.replay_text.specs.declared.Reply.{Reply}
 use Rattle.replay_text.specs.declared.Reply.the-variants.{Answered, Nothing, Refused}
 use Rattle.replay_text.specs.Feeding.{ClosedStep}

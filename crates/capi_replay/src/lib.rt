@@ -1,6 +1,6 @@
-// The replay from fragments for C, behind the functions of include/logwhisker.h: numbers, slices and references to arrays
-// only. Assumes of a caller that pointers and lengths are right. It promises what replay_feed does, with what is said of a
-// line as a number and words (specs/Replies.antt).
+// The replay from fragments for C, behind the functions of include/logwhisker.h: numbers, slices and references to
+// arrays only. Assumes of a caller that pointers and lengths are right. It promises what replay_feed does, with what
+// is said of a line as a number and words (specs/Replies.antt).
 use replay_feed::Reply;
 ghost use mathlib.Core.Path.{_≡_};
 ghost use lib.ListN.{replicate};
@@ -47,13 +47,21 @@ pub extern "C" fn lw_raw_replay_feed(
     taken: &mut usize,
     answer: &mut [u64; 8],
 ) -> u32
-    ensures { λ r. ⌜ r ≡ replyNumber (feedOf (replayingOf (now (place .entry)) (now (words .entry)) (now (frame .entry)) (now (memory .entry))) (now (fragment .entry)) .reply) ⌝ }
+    ensures { λ r. ⌜ r ≡ replyNumber (feedOf
+        (replayingOf (now (place .entry)) (now (words .entry)) (now (frame .entry)) (now (memory .entry)))
+        (now (fragment .entry)) .reply) ⌝ }
     ensures { λ _. ⌜ replayingOf (now (place .exit)) (now (words .exit)) (now (frame .exit)) (now (memory .exit))
-        ≡ feedOf (replayingOf (now (place .entry)) (now (words .entry)) (now (frame .entry)) (now (memory .entry))) (now (fragment .entry)) .state ⌝ }
+        ≡ feedOf
+        (replayingOf (now (place .entry)) (now (words .entry)) (now (frame .entry)) (now (memory .entry)))
+        (now (fragment .entry)) .state ⌝ }
     ensures { λ _. ⌜ now (taken .exit)
-        ≡ feedOf (replayingOf (now (place .entry)) (now (words .entry)) (now (frame .entry)) (now (memory .entry))) (now (fragment .entry)) .taken ⌝ }
+        ≡ feedOf
+        (replayingOf (now (place .entry)) (now (words .entry)) (now (frame .entry)) (now (memory .entry)))
+        (now (fragment .entry)) .taken ⌝ }
     ensures { λ _. ⌜ now (answer .exit)
-        ≡ replyWords (feedOf (replayingOf (now (place .entry)) (now (words .entry)) (now (frame .entry)) (now (memory .entry))) (now (fragment .entry)) .reply) (now (answer .entry)) ⌝ }
+        ≡ replyWords (feedOf
+        (replayingOf (now (place .entry)) (now (words .entry)) (now (frame .entry)) (now (memory .entry)))
+        (now (fragment .entry)) .reply) (now (answer .entry)) ⌝ }
 {
     let fed = replay_feed::feed(place, words, frame, memory, fragment);
     *taken = fed.taken;
@@ -71,13 +79,19 @@ pub extern "C" fn lw_raw_replay_close(
     answer: &mut [u64; 8],
     totals: &mut [u64; 3],
 ) -> u32
-    ensures { λ r. ⌜ r ≡ replyNumber (closeOf (replayingOf (now (place .entry)) (now (words .entry)) (now (frame .entry)) (now (memory .entry))) .reply) ⌝ }
+    ensures { λ r. ⌜ r ≡ replyNumber (closeOf
+        (replayingOf (now (place .entry)) (now (words .entry)) (now (frame .entry)) (now (memory .entry))) .reply) ⌝ }
     ensures { λ _. ⌜ replayingOf (now (place .exit)) (now (words .exit)) (now (frame .entry)) (now (memory .exit))
-        ≡ closeOf (replayingOf (now (place .entry)) (now (words .entry)) (now (frame .entry)) (now (memory .entry))) .state ⌝ }
+        ≡ closeOf
+        (replayingOf (now (place .entry)) (now (words .entry)) (now (frame .entry)) (now (memory .entry))) .state ⌝ }
     ensures { λ _. ⌜ now (answer .exit)
-        ≡ replyWords (closeOf (replayingOf (now (place .entry)) (now (words .entry)) (now (frame .entry)) (now (memory .entry))) .reply) (now (answer .entry)) ⌝ }
+        ≡ replyWords (closeOf
+        (replayingOf (now (place .entry)) (now (words .entry)) (now (frame .entry)) (now (memory .entry))) .reply)
+        (now (answer .entry)) ⌝ }
     ensures { λ _. ⌜ now (totals .exit)
-        ≡ totalsUnlessRefused (closeOf (replayingOf (now (place .entry)) (now (words .entry)) (now (frame .entry)) (now (memory .entry)))) (now (totals .entry)) ⌝ }
+        ≡ totalsUnlessRefused (closeOf
+        (replayingOf (now (place .entry)) (now (words .entry)) (now (frame .entry)) (now (memory .entry))))
+        (now (totals .entry)) ⌝ }
 {
     let closed = replay_feed::close(place, words, frame, memory);
     let t = closed.totals;

@@ -1,8 +1,8 @@
 // Replays a capture: reads lines of hexadecimal, one frame a line, from standard input, and writes the answers of a
-// charging host of own ID 1 and peer 2, and last the totals. It feeds what it reads to the crate replay_feed, piece by
-// piece, and writes the text of what that answers; what is assumed is that read and write do what their pages say. Where
-// one of them fails, that is said on standard error and no totals are written: a program has no exit status, so it is the
-// last line that tells a whole replay.
+// charging host of own ID 1 and peer 2, and last the totals. It feeds what it reads to the crate replay_feed, piece
+// by piece, and writes the text of what that answers; what is assumed is that read and write do what their pages say.
+// Where one of them fails, that is said on standard error and no totals are written: a program has no exit status, so
+// it is the last line that tells a whole replay.
 use libc::STDIN_FILENO;
 use libc::STDOUT_FILENO;
 use replay_feed::Reply;

@@ -2,15 +2,15 @@
 -- proofs ask for them.
 -- Assumes nothing.
 use mathlib.Core.Path.{_≡_, refl, sym, _∙_, ap}
-use mathlib.Core.Bool.{Bool, true, false, cond, not}
-use mathlib.Core.List.{List, [], _∷_}
+use mathlib.Core.Bool.{Bool, true, false, cond}
+use mathlib.Core.List.{List}
 use mathlib.Core.Logic.{_≢_}
-use mathlib.Core.Option.{none, some}
+use mathlib.Core.Option.{none}
 use Prim.Native.Nat.{ℕ, _+_, _%_, _≤_, _<_}
 use native.Mathlib.Nat.{mod-lt, mod-eq-of-lt}
 use native.Mathlib.Omega.{arith}
 use borrow.Author.Tests.{ltb-true, ltb-false, le-leb, lt-leb, ne-eqb}
-use lib.Dec.{ltb, leb, eqb}
+use lib.Dec.{ltb}
 use lib.ListN.{length, getD, replicate}
 use Rattle.hex_line.specs.declared.Line.{Line}
 use Rattle.hex_line.specs.declared.Taken.{Taken}
@@ -26,8 +26,6 @@ use Rattle.replay_line.specs.Report.{answeredLine, totalled}
 use Rattle.replay_text.specs.declared.Reply.the-variants.{Answered, Nothing, Refused}
 use Rattle.replay_text.specs.Text.{linesMost, memoryAtStart, noTotals}
 use Rattle.replay_text.specs.Feeding.{
-  Held,
-  within,
   past,
   nothingHeld,
   holding,
@@ -212,7 +210,8 @@ module _ (place words frame memory fragment : List ℕ) where
           let some-there : hasNewline fragment ≡ true = sym (ap (λ (x : Taken). x .ended) t-is) ∙ n in
           let at-is : t .at ≡ length (upToNewline fragment) + 1 =
           ap (λ (x : Taken). x .at) t-is ∙ rw some-there (omega arith) in
-          let answer-is : answer ≡ lineAnswer (withCharacters (upToNewline fragment) at) = k .0 ∙ ap lineAnswer reading-is in
+          let answer-is : answer ≡ lineAnswer (withCharacters (upToNewline fragment) at) =
+          k .0 ∙ ap lineAnswer reading-is in
           rw (at-is, answer-is)
           (told
           (record {

@@ -1,7 +1,7 @@
-// The replay of a text that comes in fragments, cut anywhere: opening, feeding and closing, in place over what a caller
-// lends. Assumes nothing: any words are a state, and any characters get an answer. It promises the calls of
-// replay_text/specs/Feeding.antt on the state that is lent (specs/State.antt), of which replay_text/proofs/Fragments.antt
-// shows that any way to cut a text gives the answers of the whole text.
+// The replay of a text that comes in fragments, cut anywhere: opening, feeding and closing, in place over what a
+// caller lends. Assumes nothing: any words are a state, and any characters get an answer. It promises the calls of
+// replay_text/specs/Feeding.antt on the state that is lent (specs/State.antt), of which
+// replay_text/proofs/Fragments.antt shows that any way to cut a text gives the answers of the whole text.
 use hex_line::Line;
 pub use host::Answer;
 use replay_line::Totals;
@@ -123,9 +123,11 @@ fn end_line(
 ) -> Answer
     requires { ⌜ (getD (now place) 3 0 < 1000000) × (getD (now place) 4 0 ≡ 0) ⌝ }
     ensures { λ r. ⌜ r
-        ≡ lineAnswer (readingOf (now (place .entry)) (now (words .entry)) (now (frame .entry)) (now (memory .entry)) line) ⌝ }
+        ≡ lineAnswer
+        (readingOf (now (place .entry)) (now (words .entry)) (now (frame .entry)) (now (memory .entry)) line) ⌝ }
     ensures { λ _. ⌜ replayingOf (now (place .exit)) (now (words .exit)) (now (frame .entry)) (now (memory .exit))
-        ≡ lineEnded (readingOf (now (place .entry)) (now (words .entry)) (now (frame .entry)) (now (memory .entry)) line) ⌝ }
+        ≡ lineEnded
+        (readingOf (now (place .entry)) (now (words .entry)) (now (frame .entry)) (now (memory .entry)) line) ⌝ }
 {
     let answer = replay_line::answer_line(words, line, frame, memory);
     let totals = totals_in(place).with(answer);
@@ -146,8 +148,8 @@ fn keep_line(place: &mut [u64; 9], line: Line)
 }
 
 // Takes a fragment through the first newline, and answers that line and how many bytes were taken, the newline
-// included. Without one, or after LINES_MOST lines, it takes all and answers the bytes only. Once closed, it takes nothing
-// and is refused with 17.
+// included. Without one, or after LINES_MOST lines, it takes all and answers the bytes only. Once closed, it takes
+// nothing and is refused with 17.
 pub fn feed(
     place: &mut [u64; 9],
     words: &mut [u64; 67],
@@ -156,9 +158,13 @@ pub fn feed(
     fragment: &[u8],
 ) -> Fed
     ensures { λ r. ⌜ r
-        ≡ fedOf (feedOf (replayingOf (now (place .entry)) (now (words .entry)) (now (frame .entry)) (now (memory .entry))) (now (fragment .entry))) ⌝ }
+        ≡ fedOf (feedOf
+        (replayingOf (now (place .entry)) (now (words .entry)) (now (frame .entry)) (now (memory .entry)))
+        (now (fragment .entry))) ⌝ }
     ensures { λ _. ⌜ replayingOf (now (place .exit)) (now (words .exit)) (now (frame .exit)) (now (memory .exit))
-        ≡ feedOf (replayingOf (now (place .entry)) (now (words .entry)) (now (frame .entry)) (now (memory .entry))) (now (fragment .entry)) .state ⌝ }
+        ≡ feedOf
+        (replayingOf (now (place .entry)) (now (words .entry)) (now (frame .entry)) (now (memory .entry)))
+        (now (fragment .entry)) .state ⌝ }
 {
     if place[CLOSED] != 0 {
         return Fed {
@@ -217,9 +223,11 @@ pub fn close(
     memory: &mut [u8; 4096],
 ) -> Closed
     ensures { λ r. ⌜ r
-        ≡ closedOf (closeOf (replayingOf (now (place .entry)) (now (words .entry)) (now (frame .entry)) (now (memory .entry)))) ⌝ }
+        ≡ closedOf (closeOf
+        (replayingOf (now (place .entry)) (now (words .entry)) (now (frame .entry)) (now (memory .entry)))) ⌝ }
     ensures { λ _. ⌜ replayingOf (now (place .exit)) (now (words .exit)) (now (frame .entry)) (now (memory .exit))
-        ≡ closeOf (replayingOf (now (place .entry)) (now (words .entry)) (now (frame .entry)) (now (memory .entry))) .state ⌝ }
+        ≡ closeOf
+        (replayingOf (now (place .entry)) (now (words .entry)) (now (frame .entry)) (now (memory .entry))) .state ⌝ }
 {
     if place[CLOSED] != 0 {
         return Closed {

@@ -19,8 +19,8 @@ pub struct Totals {
     pub completed: u64,
 }
 
-// Answers a line that has ended, its bytes at the start of frame, which needs no room for more than FRAME_MOST; the host
-// is in words.
+// Answers a line that has ended, its bytes at the start of frame, which needs no room for more than FRAME_MOST; the
+// host is in words.
 pub fn answer_line(words: &mut [u64; 67], line: Line, frame: &[u8], memory: &mut [u8]) -> Answer
     ensures { λ r. ⌜ r
         ≡ answeredLine (pairOf (now (words .entry))) line (now (frame .entry)) (now (memory .entry)) .answer ⌝ }

@@ -1,14 +1,12 @@
 -- Fragments, cut anywhere, are answered as the whole text is.
 -- Assumes nothing.
 use mathlib.Core.Path.{_≡_, refl, sym, _∙_, ap}
-use mathlib.Core.Bool.{Bool, true, false, cond, not}
-use mathlib.Core.List.{List, [], _∷_, _++_, append-assoc, append-nil}
-use mathlib.Core.Logic.{_≢_}
-use mathlib.Core.Option.{Option, none, some}
-use Prim.Native.Nat.{ℕ, zero, suc, _+_, _-_, _≤_, _<_}
+use mathlib.Core.Bool.{Bool, true, false, cond}
+use mathlib.Core.List.{List, [], _∷_, _++_, append-assoc}
+use Prim.Native.Nat.{ℕ, zero, suc, _+_, _≤_, _<_}
 use native.Mathlib.Decide.{decLe}
 use native.Mathlib.Omega.{arith}
-use borrow.Author.Tests.{le-leb, lt-leb, eq-eqb, ne-eqb, leb-true}
+use borrow.Author.Tests.{le-leb, lt-leb, ne-eqb, leb-true}
 use lib.Dec.{leb, eqb}
 use lib.ListN.{length, take, drop, length-drop, drop-of-length-le}
 use lib.Seq.{drop-length}
@@ -94,7 +92,8 @@ later s o l c cs e = go (hasNewline cs) refl
     go : (b : Bool) → hasNewline cs ≡ b → feed s (c ∷ cs) ≡ further (feed (withCharacters (c ∷ []) s) cs)
     go true n =
         let k : suc (length (upToNewline cs)) + 1 ≡ suc (length (upToNewline cs) + 1) = omega arith in
-        feed-line s (c ∷ cs) o l (rw e n) ∙ rw (e, k) (sym (ap further (feed-line (withCharacters (c ∷ []) s) cs o l n)))
+        feed-line s (c ∷ cs) o l (rw e n)
+        ∙ rw (e, k) (sym (ap further (feed-line (withCharacters (c ∷ []) s) cs o l n)))
     go false n = feed-part s (c ∷ cs) o l (rw e n) ∙ sym (ap further (feed-part (withCharacters (c ∷ []) s) cs o l n))
 
 reads-line : (f rest : List ℕ) (s : Replaying) → s .closed ≡ false → s .lines < linesMost → Fits s f rest
@@ -137,7 +136,8 @@ takes f s o = go (decLe linesMost (s .lines)) (hasNewline f) refl
 abbrev pub then : List Answer → Run Replaying → Run Replaying
 then first rest = record { answers = first ++ rest .answers; state = rest .state }
 
-before-then : (r : Reply) (first : List Answer) (rest : Run Replaying) → before r (then first rest) ≡ then (answersOf r first) rest
+before-then : (r : Reply) (first : List Answer) (rest : Run Replaying)
+    → before r (then first rest) ≡ then (answersOf r first) rest
 before-then (Answered a) first rest = refl
 before-then Nothing first rest = refl
 before-then (Refused n) first rest = refl
@@ -159,7 +159,8 @@ whole-fits (suc n) f rest s o h =
 
     go : Dec (length f ≤ feed s f .taken)
         → (feed s f .state .closed ≡ false → length (drop (feed s f .taken) f) < n
-        → Goes (feed s f .state) (drop (feed s f .taken) f) rest (feedWhole feed n (feed s f .state) (drop (feed s f .taken) f)))
+        → Goes (feed s f .state) (drop (feed s f .taken) f) rest
+        (feedWhole feed n (feed s f .state) (drop (feed s f .taken) f)))
         → Goes s f rest (feedWhole feed (suc n) s f)
     go (yes k) ih =
         rw (le-leb (length f) (feed s f .taken) k)

@@ -1,28 +1,23 @@
 -- The theorem: fragments, cut anywhere, and then the closing give the answers, the totals and the memory of the whole
 -- text. After the closing every call gets 17 and changes nothing.
 -- Assumes nothing.
-use mathlib.Core.Path.{_≡_, refl, sym, _∙_, ap, subst}
+use mathlib.Core.Path.{_≡_, refl, _∙_, ap, subst}
 use mathlib.Core.Bool.{Bool, true, false}
-use mathlib.Core.List.{List, [], _++_, append-nil}
+use mathlib.Core.List.{List, [], append-nil}
 use Prim.Native.Nat.{ℕ, _≤_}
 use lib.ListN.{length, take}
 use Rattle.hex_line.specs.Line.{hasNewline}
-use Rattle.host.specs.declared.Answer.{Answer}
 use Rattle.host.specs.Host.{fresh}
-use Rattle.replay_line.specs.declared.Totals.{Totals}
 use Rattle.replay_text.specs.Text.{
   linesMost,
   linesOf,
   memoryAtStart,
   noTotals,
-  answersTo,
   replayed,
   totalsOf,
-  answersText,
-  totalsText,
   output,
 }
-use Rattle.replay_text.specs.Feeding.{holding, Replaying, atStart, feed, hasLast, close, answersOf, Run, feedEach}
+use Rattle.replay_text.specs.Feeding.{holding, Replaying, atStart, feed, hasLast, close, Run, feedEach}
 use Rattle.replay_text.specs.Claim.{joined, lastCall, allAnswers, Replays, Refuses17}
 use Rattle.replay_text.proofs.Cutting.{closed, goOn, then, Goes, each-fits}
 use Rattle.replay_text.proofs.Whole.{totalling, Reading, Answers, all-answered}

@@ -1,7 +1,7 @@
--- What is held of a line decides its answer: of a line that spells a frame the host's answer to that frame, and else 14.
--- Assumes nothing.
+-- What is held of a line decides its answer: of a line that spells a frame the host's answer to that frame, and else
+-- 14. Assumes nothing.
 use mathlib.Core.Path.{_≡_, refl, sym, _∙_, ap}
-use mathlib.Core.Bool.{Bool, true, false, cond, not}
+use mathlib.Core.Bool.{Bool, true, false, cond}
 use mathlib.Core.List.{List, [], _∷_, _++_}
 use mathlib.Core.Option.{Option, none, some}
 use Prim.Native.Nat.{ℕ, zero, suc, _+_, _*_, _%_, _≤_, _<_}
@@ -17,7 +17,7 @@ use Rattle.hex_line.specs.declared.Line.{Line}
 use Rattle.hex_line.specs.Line.{digit, decode}
 use Rattle.hex_line.specs.Taking.{State, state, start, withByte, withDigit, withValue, after, refusedLine, emptyLine}
 use Rattle.hex_line.proofs.Digits.{Valued, is-digit, no-digit, valued}
-use Rattle.hex_line.proofs.Taking.{on-bad, on-high, on-low, on-full}
+use Rattle.hex_line.proofs.Taking.{on-high, on-low, on-full}
 use Rattle.hex_line.proofs.Decoding.{
   atStart,
   Spelled,
@@ -28,7 +28,7 @@ use Rattle.hex_line.proofs.Decoding.{
   frame-long,
 }
 use Rattle.host.specs.declared.Pair.{Pair}
-use Rattle.host.specs.Host.{Received, unchanged, refused, receiveOf}
+use Rattle.host.specs.Host.{unchanged, refused, receiveOf}
 use Rattle.logwhisker.proofs.TooLong.{too-long}
 use Rattle.replay_text.specs.Text.{answerTo}
 use Rattle.replay_text.specs.Feeding.{Held, within, past, nothingHeld, holdingOne, holding, answerHeld, isEmpty}
@@ -168,7 +168,8 @@ all-held (c ∷ cs) s room =
 -- ---- the answer where the line ends
 
 module _ (p : Pair) (memory : List ℕ) (line : Line) (frame : List ℕ) where
-  pub answer-refused : refusedLine line ≡ true → answerHeld p memory (heldOf line frame) ≡ unchanged p memory (refused 14 0)
+  pub answer-refused : refusedLine line ≡ true
+      → answerHeld p memory (heldOf line frame) ≡ unchanged p memory (refused 14 0)
   unfolding refusedLine heldOf
   answer-refused e = go (ltb 9000 (line .len)) (line .bad) (line .odd) e
     where

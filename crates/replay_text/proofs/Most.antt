@@ -1,15 +1,15 @@
 -- However a text is cut, no more than 9,000 bytes of a line are held between two calls.
 -- Assumes nothing.
 use mathlib.Core.Path.{_≡_, refl}
-use mathlib.Core.Bool.{Bool, true, false, cond}
-use mathlib.Core.List.{List, [], _∷_, _++_}
+use mathlib.Core.Bool.{Bool, true, false}
+use mathlib.Core.List.{List, [], _∷_}
 use mathlib.Core.Option.{Option, none, some}
-use Prim.Native.Nat.{ℕ, zero, suc, _+_, _*_, _≤_, _<_}
+use Prim.Native.Nat.{ℕ, zero, suc, _+_, _*_, _<_}
 use native.Mathlib.Decide.{decLt}
 use native.Mathlib.Omega.{arith}
 use lib.Dec.{leb}
 use lib.ListN.{length, drop, length-append}
-use Rattle.hex_line.specs.Line.{digit, upToNewline, hasNewline}
+use Rattle.hex_line.specs.Line.{digit, hasNewline}
 use Rattle.replay_text.specs.Text.{linesMost}
 use Rattle.replay_text.specs.Feeding.{
   Held,

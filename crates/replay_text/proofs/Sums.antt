@@ -1,6 +1,6 @@
 -- The totals of a replay stay far below 64 bits, so that they are plain sums.
 -- Assumes nothing.
-use mathlib.Core.Path.{_≡_, refl, sym, _∙_, ap, subst}
+use mathlib.Core.Path.{_≡_, refl, _∙_, ap}
 use mathlib.Core.Bool.{Bool, true, false, cond}
 use mathlib.Core.List.{List, [], _∷_}
 use mathlib.Core.Option.{Option, none, some}
@@ -13,7 +13,17 @@ use lib.ListN.{length, take, drop, length-take}
 use Rattle.octets.specs.Octets.{field}
 use Rattle.seq.specs.Ring.{distance, frameSpace}
 use Rattle.wire.specs.Format.{Message, nextHeader}
-use Rattle.wire.specs.Reading.{number, flags, follows, addressed, dataEnd, messageAt, messagesFrom, readFrame, refusalOf}
+use Rattle.wire.specs.Reading.{
+  number,
+  flags,
+  follows,
+  addressed,
+  dataEnd,
+  messageAt,
+  messagesFrom,
+  readFrame,
+  refusalOf,
+}
 use Rattle.wire.proofs.Reading.{unread, Headed, headed, Readable, readable}
 use Rattle.host.specs.Transactions.{verdict}
 use Rattle.host.specs.declared.Pair.{Pair}
@@ -26,7 +36,6 @@ use Rattle.host.specs.Host.{
   fine,
   wrong,
   takeAll,
-  Received,
   unchanged,
   refused,
   settled,
@@ -63,14 +72,16 @@ messages-few : (n : ℕ) (f : List ℕ) (at : ℕ) (ms : List Message) → messa
 unfolding dataBytes
 messages-few zero f at ms e = absurd (unread f at ms e)
 messages-few (suc n) f at ms e =
-    go (follows (field f (at + 23) 1)) refl (λ (rest : List Message) q. messages-few n f (nextHeader (dataEnd f at)) rest q)
+    go (follows (field f (at + 23) 1)) refl
+    (λ (rest : List Message) q. messages-few n f (nextHeader (dataEnd f at)) rest q)
   where
     h : Headed f at n ms
     h = headed f n at ms e
 
     go : (b : Bool) → follows (field f (at + 23) 1) ≡ b
         → ((rest : List Message) → messagesFrom n f (nextHeader (dataEnd f at)) ≡ some rest
-        → (length rest + nextHeader (dataEnd f at) ≤ length f) × (dataBytes rest + nextHeader (dataEnd f at) ≤ length f))
+        → (length rest + nextHeader (dataEnd f at) ≤ length f)
+        × (dataBytes rest + nextHeader (dataEnd f at) ≤ length f))
         → (length ms + at ≤ length f) × (dataBytes ms + at ≤ length f)
     go false q ih =
         let z : h .rest ≡ [] = h .last q in
@@ -87,7 +98,8 @@ record Brings (n b : ℕ) (t u : Tally) : Type 0 where
   bytes-most : u .bytes ≤ t .bytes + b
   completed-most : u .completed ≤ t .completed + n
 
-brings-all : (ms : List Message) (t u : Tally) (place : ℕ) → takeAll t place ms ≡ fine u → Brings (length ms) (dataBytes ms) t u
+brings-all : (ms : List Message) (t u : Tally) (place : ℕ) → takeAll t place ms ≡ fine u
+    → Brings (length ms) (dataBytes ms) t u
 unfolding takeAll takeIn dataBytes
 brings-all [] t u place e =
     let q : t ≡ u = cc in

@@ -1,13 +1,13 @@
 -- A text taken character by character, and then closed, is answered as its lines are.
 -- Assumes nothing.
 use mathlib.Core.Path.{_≡_, refl, sym, _∙_, ap, subst}
-use mathlib.Core.Bool.{Bool, true, false, cond, not}
+use mathlib.Core.Bool.{Bool, true, false, cond}
 use mathlib.Core.List.{List, [], _∷_, _++_, append-assoc, append-nil}
-use Prim.Native.Nat.{ℕ, zero, suc, _+_, _-_, _≤_, _<_}
+use Prim.Native.Nat.{ℕ, suc, _+_, _-_, _≤_, _<_}
 use native.Mathlib.Decide.{decLe}
 use native.Mathlib.Omega.{arith}
 use borrow.Author.Tests.{le-leb, lt-leb, ne-eqb, eqb-true}
-use lib.Dec.{leb, eqb}
+use lib.Dec.{eqb}
 use lib.ListN.{length, take}
 use lib.Seq.{take-nil}
 use Rattle.hex_line.specs.Line.{digit, decode, hasNewline}
@@ -16,7 +16,7 @@ use Rattle.host.specs.Host.{Received}
 use Rattle.replay_line.specs.declared.Totals.{Totals}
 use Rattle.replay_line.specs.Report.{totalled}
 use Rattle.replay_text.specs.declared.Reply.the-variants.{Answered, Nothing}
-use Rattle.replay_text.specs.Text.{linesMost, withFirst, linesOf, answerTo, Replayed, answersTo}
+use Rattle.replay_text.specs.Text.{linesMost, withFirst, linesOf, answerTo, answersTo}
 use Rattle.replay_text.specs.Feeding.{
   Held,
   nothingHeld,
@@ -109,7 +109,8 @@ closed-none s o h =
     rw e (record { answers-are = refl; pair-is = refl; memory-is = refl; totals-are = refl; is-closed = refl })
 
 -- a line answered, and those behind it
-line-then : (s : Replaying) (a : List ℕ) (lines : List (List ℕ)) (r : Run Replaying) → Reading s a → Answers (lineEnded s) lines r
+line-then : (s : Replaying) (a : List ℕ) (lines : List (List ℕ)) (r : Run Replaying) → Reading s a
+    → Answers (lineEnded s) lines r
     → Answers s (a ∷ lines) (before (Answered (lineAnswer s)) r)
 unfolding answersTo totalling
 line-then s a lines r w k =
@@ -125,7 +126,8 @@ line-then s a lines r w k =
     }
 
 -- what is held of the first line counts in none of these
-begun-before : (s : Replaying) (cs : List ℕ) (lines : List (List ℕ)) (r : Run Replaying) → Answers (withCharacters cs s) lines r
+begun-before : (s : Replaying) (cs : List ℕ) (lines : List (List ℕ)) (r : Run Replaying)
+    → Answers (withCharacters cs s) lines r
     → Answers s lines r
 begun-before s cs lines r k =
     record {
@@ -162,11 +164,14 @@ at-end s [] w l =
     subst (λ (r : List (List ℕ)). Answers s r (closed s)) (sym none-left)
     (closed-none s (w .is-open) (rw (lt-leb linesMost (s .lines) l, e)))
 at-end s (x ∷ a) w l =
-    let e : isEmpty (s .held) ≡ false = rw (w .held-is) (held-empty (x ∷ a) ∙ ne-eqb (suc (length a)) 0 (omega arith)) in
+    let e : isEmpty (s .held) ≡ false =
+    rw (w .held-is) (held-empty (x ∷ a) ∙ ne-eqb (suc (length a)) 0 (omega arith)) in
     let m : linesMost - s .lines ≡ suc (linesMost - (s .lines + 1)) = omega arith in
-    let lines : linesOf ((x ∷ a) ++ []) ≡ (x ∷ a) ∷ [] = ap linesOf (append-nil (x ∷ a)) ∙ line-last x a (w .one-line) in
+    let lines : linesOf ((x ∷ a) ++ []) ≡ (x ∷ a) ∷ [] =
+    ap linesOf (append-nil (x ∷ a)) ∙ line-last x a (w .one-line) in
     let taken : left s (x ∷ a) [] ≡ (x ∷ a) ∷ [] =
-    ap (take (linesMost - s .lines)) lines ∙ rw m (ap (λ (r : List (List ℕ)). (x ∷ a) ∷ r) (take-nil (linesMost - (s .lines + 1)))) in
+    ap (take (linesMost - s .lines)) lines
+    ∙ rw m (ap (λ (r : List (List ℕ)). (x ∷ a) ∷ r) (take-nil (linesMost - (s .lines + 1)))) in
     subst (λ (r : List (List ℕ)). Answers s r (closed s)) (sym taken)
     (closed-line s (x ∷ a) w (rw (lt-leb linesMost (s .lines) l, e)))
 
@@ -203,4 +208,5 @@ all-answered (c ∷ cs) s a w =
         ap (λ (r : List ℕ). take (linesMost - s .lines) (linesOf r)) (append-assoc a (c ∷ []) cs) in
         rw (lt-leb linesMost (s .lines) (omega arith), e)
         (begun-before s (c ∷ []) (left s a (c ∷ cs)) _
-        (subst (λ (r : List (List ℕ)). Answers (withCharacters (c ∷ []) s) r (goOn (withCharacters (c ∷ []) s) cs)) lines k))
+        (subst (λ (r : List (List ℕ)). Answers (withCharacters (c ∷ []) s) r (goOn (withCharacters (c ∷ []) s) cs))
+        lines k))

@@ -5,7 +5,6 @@ use mathlib.Core.List.{List, [], _∷_, _++_}
 use Prim.Native.Nat.{ℕ, _≤_}
 use lib.ListN.{length}
 use Rattle.host.specs.declared.Answer.{Answer}
-use Rattle.replay_line.specs.declared.Totals.{Totals}
 use Rattle.replay_text.specs.declared.Reply.the-variants.{Refused}
 use Rattle.replay_text.specs.Text.{replayed, totalsOf, answersText, totalsText, output}
 use Rattle.replay_text.specs.Feeding.{

@@ -1,5 +1,5 @@
--- What a line as hex_line/specs/Taking.antt has it, its bytes at the start of a lent buffer, says of the line: a count above 9,000 says
--- that there are more.
+-- What a line as hex_line/specs/Taking.antt has it, its bytes at the start of a lent buffer, says of the line: a
+-- count above 9,000 says that there are more.
 use Prim.Native.Nat.{ℕ, _%_}
 use mathlib.Core.Bool.{cond}
 use mathlib.Core.List.{List}

@@ -17,8 +17,8 @@ use Rattle.replay_text.specs.Text.{linesMost, memoryAtStart, noTotals}
 
 -- ---- what is held of the line being read
 
--- At most 9,000 frame bytes, the digit that waits for its second half, and whether a character was bad. Past 9,000 bytes only that,
--- the digit parity and whether a character was bad.
+-- At most 9,000 frame bytes, the digit that waits for its second half, and whether a character was bad. Past 9,000
+-- bytes only that, the digit parity and whether a character was bad.
 pub data Held : Type 0 where
   within : List ℕ → Option ℕ → Bool → Held
   past : Bool → Bool → Held
@@ -39,7 +39,8 @@ unfoldable pub holding : Held → List ℕ → Held
 holding h [] = h
 holding h (c ∷ cs) = holding (holdingOne (digit c) h) cs
 
--- What a line is answered where it ends: 14 for a bad character or a half byte, 2 past 9,000 bytes, and else what the host says.
+-- What a line is answered where it ends: 14 for a bad character or a half byte, 2 past 9,000 bytes, and else what the
+-- host says.
 abbrev pub answerHeld : Pair → List ℕ → Held → Received
 answerHeld pair memory (within bytes none bad) =
     cond bad (unchanged pair memory (refused 14 0)) (receiveOf pair bytes memory)
@@ -112,8 +113,8 @@ closing s = record {
 
 -- ---- the calls
 
--- A call takes its fragment through the first newline and answers that line and the bytes taken; without one, or after 1,000,000
--- lines, it takes all and answers the bytes only. After the closing call it gets refusal 17.
+-- A call takes its fragment through the first newline and answers that line and the bytes taken; without one, or
+-- after 1,000,000 lines, it takes all and answers the bytes only. After the closing call it gets refusal 17.
 pub record Step (S : Type 0) : Type 0 where
   pub state : S
   pub reply : Reply
@@ -160,9 +161,9 @@ pub record Run (S : Type 0) : Type 0 where
   pub answers : List Answer
   pub state : S
 
--- A fragment is fed until it is taken whole, each time what the call before left of it. n counts the calls, and stands only for their
--- end: a call takes at least one byte where there is any, so that as many calls as the fragment has bytes are enough. `call` is `feed`,
--- or the code's call on its own state.
+-- A fragment is fed until it is taken whole, each time what the call before left of it. n counts the calls, and
+-- stands only for their end: a call takes at least one byte where there is any, so that as many calls as the fragment
+-- has bytes are enough. `call` is `feed`, or the code's call on its own state.
 unfoldable pub feedWhole : {S : Type 0} → (S → List ℕ → Step S) → ℕ → S → List ℕ → Run S
 feedWhole call zero s fragment = record { answers = []; state = s }
 feedWhole call (suc n) s fragment =

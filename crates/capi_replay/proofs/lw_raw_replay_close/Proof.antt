@@ -1,6 +1,6 @@
 -- `capi_replay::lw_raw_replay_close`: what closing answers, as numbers.
 -- Assumes nothing.
-use mathlib.Core.Path.{_≡_, ap, _∙_}
+use mathlib.Core.Path.{ap, _∙_}
 use Rattle.replay_text.specs.declared.Reply.{Reply}
 use Rattle.replay_text.specs.Feeding.{close}
 use Rattle.replay_feed.specs.declared.Closed.{Closed}

@@ -1,7 +1,7 @@
 -- `replay::take_piece` stays inside what it is lent, and each turn takes at least one character.
 -- Assumes nothing.
-use mathlib.Core.Path.{_≡_, refl, sym, _∙_}
-use Prim.Native.Nat.{ℕ, _-_}
+use mathlib.Core.Path.{_≡_, refl}
+use Prim.Native.Nat.{_-_}
 use native.Mathlib.Omega.{arith}
 use lib.ListN.{length}
 use borrow.Author.Needs.{needs}
@@ -13,7 +13,8 @@ use Rattle.replay.proofs.put_reply.Reads as put-reply-reads
 use Rattle.replay_feed.proofs.feed.Reads as feed-reads
 
 abbrev Inv-loop : tie.InvT-loop
-Inv-loop piece place₀ words₀ frame₀ memory₀ out₀ room₀ at₀ place words frame memory out room at = length out ≡ length out₀
+Inv-loop piece place₀ words₀ frame₀ memory₀ out₀ room₀ at₀ place words frame memory out room at =
+    length out ≡ length out₀
 
 abbrev μ-loop : tie.MeasureT-loop
 μ-loop piece place₀ words₀ frame₀ memory₀ out₀ room₀ at₀ place words frame memory out room at = length piece - at

@@ -1,6 +1,6 @@
 -- `replay_feed::end_line`: the answer, and the place for the next line.
 -- Assumes nothing.
-use mathlib.Core.Path.{_≡_, _∙_}
+use mathlib.Core.Path.{_∙_}
 use Rattle.replay_feed.proofs.Steps.{ended-is}
 use borrow.Author.Needs.{needs}
 use Rattle.replay_feed.proofs.end_line.Statement.{statement}

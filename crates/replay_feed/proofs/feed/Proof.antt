@@ -1,6 +1,6 @@
 -- `replay_feed::feed`, case by case as the definition.
 -- Assumes nothing.
-use mathlib.Core.Path.{_≡_, sym, _∙_}
+use mathlib.Core.Path.{_≡_}
 use native.Mathlib.Omega.{arith}
 use lib.ListN.{length}
 use Rattle.replay_feed.proofs.Steps.{fed-closed, fed-over, fed-part, fed-line}
