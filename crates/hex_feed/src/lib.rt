@@ -1,7 +1,7 @@
 // Characters fed to a line of hexadecimal, piece by piece, with the bytes that they spell put into a lent frame. Assumes nothing: any
 // characters and any lengths get an answer. It promises the line, the index and every byte of the frame as hex_line/specs/Taking.antt
 // says.
-use hex_line::KEPT;
+use hex_line::COUNTED;
 use hex_line::Line;
 use hex_line::Taken;
 ghost use mathlib.Core.Path.{_≡_};
@@ -9,7 +9,8 @@ ghost use lib.ListN.{drop};
 ghost use Rattle.hex_line.specs.Taking.{takenFrom, frameAfter};
 
 // Takes in the characters of piece from an index on, up to the end of the line, newline included, or of the piece. The
-// bytes that they spell go into frame. A frame shorter than KEPT keeps fewer of them, and they are counted all the same.
+// bytes that they spell go into frame. A frame holds as many of
+// them as it has room for, and those past it are counted all the same.
 pub fn take_in(line: Line, frame: &mut [u8], piece: &[u8], from: usize) -> Taken
     ensures { λ r. ⌜ r ≡ takenFrom line (now (frame .entry)) from (drop from (now (piece .entry))) ⌝ }
     ensures { λ _. ⌜ now (frame .exit) ≡ frameAfter line (now (frame .entry)) (drop from (now (piece .entry))) ⌝ }
@@ -39,7 +40,7 @@ pub fn take_in(line: Line, frame: &mut [u8], piece: &[u8], from: usize) -> Taken
             continue;
         }
         odd = false;
-        if KEPT <= len {
+        if COUNTED <= len {
             continue;
         }
         octets::keep(frame, len, half % 16 * 16 + d);

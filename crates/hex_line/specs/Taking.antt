@@ -1,5 +1,5 @@
 -- What is known of a line after some of its characters, and what taking characters in answers.
--- Any length of line is taken: of the bytes that it spells, the first 9,001 are kept, one more than a frame can have.
+-- Any length of line is taken: of the bytes that it spells 9,001 are counted, one more than a frame can have.
 use Prim.Native.Nat.{ℕ, _+_, _*_, _%_}
 use mathlib.Core.Bool.{Bool, true, false, cond}
 use mathlib.Core.List.{List, [], _∷_}

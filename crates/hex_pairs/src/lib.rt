@@ -1,7 +1,7 @@
 // The pairs of digits at the front of a piece of a line, with their bytes put into a lent frame. Assumes nothing: any
 // characters and any lengths get an answer. It promises the line, the index and every byte of the frame as
 // specs/Pairs.antt says; proofs/Laws.antt shows that this is a part of the walk from character to character.
-use hex_line::KEPT;
+use hex_line::COUNTED;
 use hex_line::Line;
 use hex_line::Taken;
 ghost use mathlib.Core.Path.{_≡_};
@@ -23,7 +23,7 @@ fn least(a: usize, b: usize) -> usize
 fn pairs_until(len: usize, size: usize, from: usize, end: usize) -> usize
     ensures { λ r. ⌜ r - len ≡ pairsMost len size from end ⌝ }
 {
-    let most = least(KEPT, size);
+    let most = least(COUNTED, size);
     if most <= len {
         return 0;
     }
