@@ -606,7 +606,7 @@ def reordered(p, x, y):
     p.text(j.card + 6, j.top + 119, "acknowledges 1", 10.5, "start", halo=GREY)
     j.at_card(108, "acknowledged", AMBER, ["1: not released", "before 0 is", "acknowledged"])
     j.at_host(130, "accepted", GREEN, ["next moves past", "both, to 2"])
-    j.ack(158, 178, "acknowledges 0")
+    j.ack(158, 178, "acknowledges 0 and 1")
     j.at_card(182, "released", GREY, ["0, and 1 with it"])
 
 
@@ -619,8 +619,9 @@ def in_every_case(p, x, y):
         "timers.",
         "",
         "The host acknowledges each copy that it answers",
-        "accepted or again, and only the first one is written",
-        "and counted.",
+        "accepted or again, and with it the run of numbers",
+        "from there on that are accepted or behind. Only the",
+        "first copy is written and counted.",
         "",
         "A refused frame is not acknowledged and changes",
         "nothing; it stays held.",
