@@ -131,7 +131,8 @@ impl Book {
         };
         let again = self.frames[frame].accepted;
         self.frames[frame].accepted = true;
-        // Accepted and again each call for an acknowledgement (H19).
+        // Accepted and again each call for an acknowledgement (H19), of the run as it is
+        // after the frame took effect (H24).
         let run = self.run_from(frame);
         self.acknowledgements
             .push(Acknowledgement { first: frame, run });
@@ -161,7 +162,7 @@ impl Book {
     }
 
     /// How many frames from this one on are accepted, as far as one acknowledgement
-    /// goes (H19).
+    /// goes (H23).
     fn run_from(&self, frame: usize) -> u8 {
         let frames = self.frames[frame..].iter().take(LONGEST_RUN);
         frames.take_while(|frame| frame.accepted).count() as u8

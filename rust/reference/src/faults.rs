@@ -78,19 +78,19 @@ faults! {
     HostSilentOnRepeats => Demand3,
     /// X4: the host answers "again" and calls for no acknowledgement.
     HostRepeatsUnacknowledged => Comparison,
-    /// H19: the run counts one number too many.
+    /// H23: the run counts one number too many.
     HostRunOneTooLong => Demand3,
     /// H19: the answer is right, and its acknowledgement has one number too many.
     HostAcknowledgesOneMore => Demand3,
-    /// H19: the run is judged before the frame takes effect; the frame itself counts.
+    /// H24: the run is judged before the frame takes effect; the frame itself counts.
     HostRunBeforeEffect => Demand3,
-    /// H19: the run counts accepted numbers past the next one, and none behind.
+    /// H23: the run counts accepted numbers past the next one, and none behind.
     HostRunOfMarksOnly => Demand3,
-    /// H19: a run has up to 256 numbers, and 256 is 0 in the field's 8 bits.
+    /// H25: a run has up to 256 numbers, and 256 is 0 in the field's 8 bits.
     HostRunUpTo256 => Demand3,
-    /// H19: a run has 64 numbers at most, as the window does.
+    /// H25: a run has 64 numbers at most, as the window does.
     HostRunUpTo64 => Demand3,
-    /// H19: answer and acknowledgement tell the run from the number after the frame's.
+    /// H23: answer and acknowledgement tell the run from the number after the frame's.
     HostRunFromNext => Demand3,
     /// H19: the acknowledgement of the run starts at the number after the frame's.
     HostAcknowledgesFromNext => Demand3,

@@ -61,7 +61,7 @@ pub enum Answer {
         bytes: u64,
         /// Transactions that became complete.
         completed: u64,
-        /// How many numbers from this one on are acknowledged (H19).
+        /// How many numbers from this one on are acknowledged (H23).
         run: u8,
     },
     /// The number is behind or was accepted before.
@@ -100,7 +100,7 @@ impl fmt::Display for Answer {
     }
 }
 
-/// How many numbers one acknowledgement covers at most (H19).
+/// How many numbers one acknowledgement covers at most (H25).
 pub const LONGEST_RUN: usize = 255;
 
 /// Where a frame number lies, seen from the next one (H4).
@@ -223,7 +223,7 @@ impl Host {
     }
 
     /// The longest run of numbers from this one on in which each is behind or accepted,
-    /// as the state is now (H19).
+    /// as the state is now (H23).
     pub fn run(&self, first: u16) -> u8 {
         let mut numbers = (0..LONGEST_RUN as u16).map(|step| first.wrapping_add(step));
         let run = numbers.position(|number| !self.is_behind_or_accepted(number));

@@ -87,7 +87,7 @@ pub enum Expected {
         bytes: u64,
         /// The transactions that it makes complete.
         completed: Vec<usize>,
-        /// How many frames from this one on are then accepted (H19).
+        /// How many frames from this one on are then accepted (H23).
         run: u8,
     },
     /// A later copy: again.

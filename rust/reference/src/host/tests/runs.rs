@@ -1,4 +1,4 @@
-//! Runs that were worked out by hand (H19), and over any next number and any marks, also
+//! Runs that were worked out by hand (H23), and over any next number and any marks, also
 //! such as no run of a host reaches, against what the marks' word says at once.
 
 use super::*;
