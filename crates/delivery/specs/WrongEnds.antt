@@ -189,7 +189,7 @@ neverCompletes h f m =
     let at = field f 14 4 in
     record { pair = r .pair; memory = sets (r .memory) at (take 4 (drop at m)); answer = r .answer }
 
--- It acknowledges one number too many: the one behind the run.
+-- It acknowledges one number too many: the one after the run.
 unfoldable pub acksTwo : Acknowledging
 acksTwo p a num = record {
   due = ltb 0 (rangeOf a .count);

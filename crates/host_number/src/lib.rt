@@ -1,5 +1,5 @@
-// The window of frame numbers in lent words: whether a number is new, and what stands before the table once its frame
-// is accepted. Assumes nothing. It promises specs/Numbering.antt.
+// The window of frame numbers in lent words: whether a number is new, what stands before the table once its frame is
+// accepted, and the run that it acknowledges then. Assumes nothing. It promises specs/Numbering.antt.
 use bitmap::word64;
 use host_words::Head;
 use seq::FrameNo;
