@@ -4,10 +4,12 @@ use mathlib.Core.Path.{_≡_, refl, sym, ap, _∙_}
 use mathlib.Core.Bool.{Bool, true, false}
 use mathlib.Core.List.{List}
 use Prim.Native.Nat.{ℕ, _+_, _-_, _/_, _%_, _^_, _≤_, _<_, min}
+use native.Mathlib.Nat.{mod-eq-of-lt}
 use native.Mathlib.Decide.{decLe, decLt}
 use native.Mathlib.Omega.{arith}
 use borrow.Author.Tests.{lt-ltb, leb-false}
 use lib.Dec.{eqb, leb, lit<}
+use lib.ListN.{getD}
 use Rattle.seq.specs.Ring.{distance, advance, frameSpace}
 use Rattle.seq.proofs.Ring.{distance-lt, distance-further, distance-nearer, distance-passed}
 use Rattle.bitmap.specs.Marks.{mark, withMark, leading, trailingOnes}
@@ -48,6 +50,8 @@ use Rattle.host.specs.Host.{
   answered,
   receiveOf,
   acknowledgementFrom,
+  answerWords,
+  answerOf,
 }
 use Rattle.host.specs.Reachable.{Reachable}
 use Rattle.host.proofs.Receiving.{reading, settled-behind, settled-ahead, settled-window}
@@ -365,3 +369,25 @@ module _ (p : Pair) (memory : List ℕ) (fits : p .next .0 < frameSpace) where
       go (Again k run) r = lt-ltb 0 run (r .0)
       go NoMessages r = refl
       go (Refused k) r = refl
+
+-- ---- an answer as words
+
+-- A frame number that has 16 bits.
+abbrev pub NumberFits : Answer → Type 0
+NumberFits (Accepted n sums run) = n .0 < frameSpace
+NumberFits (Again n run) = n .0 < frameSpace
+NumberFits NoMessages = Unit {0}
+NumberFits (Refused r) = Unit {0}
+
+-- what is left of an answer in three of its words calls for the acknowledgement that the answer calls for
+pub words-acknowledge : (own peer num : ℕ) (a : Answer) → RunFits a → NumberFits a
+    → acknowledgementFrom own peer
+    (answerOf (getD (answerWords a) 0 0) (getD (answerWords a) 1 0) (getD (answerWords a) 7 0)) num
+    ≡ acknowledgementFrom own peer a num
+unfolding acknowledgementFrom
+words-acknowledge own peer num (Accepted n sums run) r f =
+    let small : run < 256 = omega (arith, r .1) in rw (mod-eq-of-lt f, mod-eq-of-lt small)
+words-acknowledge own peer num (Again n run) r f =
+    let small : run < 256 = omega (arith, r .1) in rw (mod-eq-of-lt f, mod-eq-of-lt small)
+words-acknowledge own peer num NoMessages r f = refl
+words-acknowledge own peer num (Refused k) r f = refl

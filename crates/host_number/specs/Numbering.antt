@@ -31,8 +31,8 @@ acceptedHead h num lowest closed =
     }
 
 -- The run of numbers that an accepted frame acknowledges, counted on the marks before the window moves.
-unfoldable pub acceptedRun : Head → ℕ → ℕ
-acceptedRun h num =
+unfoldable pub runOfAccepted : Head → ℕ → ℕ
+runOfAccepted h num =
     let d = distance frameSpace (h .next .0) num in
     runWithin (withMark 64 (h .marks) d) d
 

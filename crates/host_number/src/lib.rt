@@ -7,7 +7,7 @@ use seq::TransNo;
 ghost use mathlib.Core.Path.{_≡_};
 ghost use Rattle.host_words.specs.Words.{pairOf, headPart};
 ghost use Rattle.host_update.specs.Updating.{withHead};
-ghost use Rattle.host_number.specs.Numbering.{isNew, acceptedHead, acceptedRun, Accepts};
+ghost use Rattle.host_number.specs.Numbering.{isNew, acceptedHead, runOfAccepted, Accepts};
 
 // Whether a frame d past the next one is in the window and was not accepted yet.
 pub fn is_new(marks: u64, d: u16) -> bool
@@ -25,7 +25,7 @@ pub fn is_new(marks: u64, d: u16) -> bool
 // A frame is accepted: its number is marked, next moves past every consecutive accepted number, and the transactions'
 // window is the one that the frame leaves. Answers the run of numbers that the frame acknowledges.
 pub fn accept(words: &mut [u64], number: FrameNo, lowest: TransNo, closed: u32) -> u8
-    ensures { λ r. ⌜ r ≡ acceptedRun (headPart (pairOf (now (words .entry)))) (number .0) ⌝ }
+    ensures { λ r. ⌜ r ≡ runOfAccepted (headPart (pairOf (now (words .entry)))) (number .0) ⌝ }
     ensures { λ _. ⌜ now (words .exit) ≡ withHead (now (words .entry))
         (acceptedHead (headPart (pairOf (now (words .entry)))) (number .0) (lowest .0) closed) ⌝ }
     ensures { λ _. ⌜ Accepts (now (words .entry)) (now (words .exit)) (number .0) (lowest .0) closed ⌝ }

@@ -53,7 +53,7 @@ use Rattle.host_validate.specs.Validating.{noneYet, validatedFrom, validatedOf}
 use Rattle.host_validate.proofs.Walk.{validated-short}
 use Rattle.host_apply.specs.Applying.{appliedFrom}
 use Rattle.host_refuse.specs.Refusing.{refusedWith, numberAnswered}
-use Rattle.host_number.specs.Numbering.{acceptedHead, acceptedRun}
+use Rattle.host_number.specs.Numbering.{acceptedHead, runOfAccepted}
 use Rattle.host_receive.specs.Receiving.{Awaited}
 use Rattle.host_receive.proofs.Passes.{tallyOfBoth, taken-all, not-taken-all, validated-cut}
 
@@ -188,12 +188,12 @@ module _ (p : Pair) (f memory : List ℕ) (num d : ℕ) (w : Awaited p f num d) 
       memory = appliedFrom (v .messages) f 10 (p .table) memory .memory;
       answer = Accepted (record { 0 = num })
           (record { messages = v .messages; bytes = v .bytes; completed = v .completed })
-          (acceptedRun (headPart p) num);
+          (runOfAccepted (headPart p) num);
     }
 
     -- the run is counted before the window moves
-    run-same : (t : Transactions) → runFrom (afterFrame p num t) num ≡ acceptedRun (headPart p) num
-    unfolding acceptedRun
+    run-same : (t : Transactions) → runFrom (afterFrame p num t) num ≡ runOfAccepted (headPart p) num
+    unfolding runOfAccepted
     run-same t = rw (← (w .d-is)) (sym (after-accepting p num d (w .d-is) t new (w .next-fits) (w .marks-fit)))
 
     taken-new : (ms : List Message) → messagesFrom (length f) f 10 ≡ some ms → found .refusal ≡ 0

@@ -17,8 +17,8 @@ use Rattle.replay_text.specs.Text.{linesMost, memoryAtStart, noTotals}
 
 -- ---- what is held of the line being read
 
--- At most 9,000 frame bytes, the digit that waits for its second half, and whether a character was bad. Past 9,000
--- bytes only that, the digit parity and whether a character was bad.
+-- As long as 9,000 bytes are enough for it: its bytes, a digit without its partner, and whether some character was no
+-- digit. Once it is longer, no bytes are kept, but still whether the digits so far are odd in number and all were digits.
 pub data Held : Type 0 where
   within : List ℕ → Option ℕ → Bool → Held
   past : Bool → Bool → Held
@@ -113,8 +113,8 @@ closing s = record {
 
 -- ---- the calls
 
--- A call takes its fragment through the first newline and answers that line and the bytes taken; without one, or
--- after 1,000,000 lines, it takes all and answers the bytes only. After the closing call it gets refusal 17.
+-- Feeding a fragment: what is left of the state, the reply, and how many bytes of the fragment were used up. Where the
+-- fragment has a newline that is all up to it and the newline itself, since a call answers one line at most.
 pub record Step (S : Type 0) : Type 0 where
   pub state : S
   pub reply : Reply

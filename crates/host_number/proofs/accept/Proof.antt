@@ -3,7 +3,7 @@
 use mathlib.Core.Path.{_∙_}
 use native.Mathlib.Omega.{arith}
 use Rattle.bitmap.proofs.Marks.{ones-le}
-use Rattle.host_number.specs.Numbering.{acceptedHead, acceptedRun}
+use Rattle.host_number.specs.Numbering.{acceptedHead, runOfAccepted}
 use borrow.Author.Needs.{needs}
 use Rattle.host_number.proofs.accept.Statement.{statement}
 use Rattle.host_number.proofs.accept.Tie as tie
@@ -66,7 +66,7 @@ same-length : tie.Need-same-length
 same-length c = search needs
 
 returns : tie.Need-returns
-unfolding acceptedHead acceptedRun
+unfolding acceptedHead runOfAccepted
 returns c =
     let moved = c .before .before .before .before in
     let counted = moved .before .before .before .before .before .before in
