@@ -1,6 +1,6 @@
-// Characters fed to a line of hexadecimal, piece by piece, with the bytes that they spell put into a lent frame. Assumes nothing: any
-// characters and any lengths get an answer. It promises the line, the index and every byte of the frame as hex_line/specs/Taking.antt
-// says.
+// Characters fed to a line of hexadecimal, piece by piece, with the bytes that they spell put into a lent frame.
+// Assumes nothing: any characters and any lengths get an answer. It promises the line, the index and every byte of the
+// frame as hex_line/specs/Taking.antt says.
 use hex_line::COUNTED;
 use hex_line::Line;
 use hex_line::Taken;

@@ -10,8 +10,8 @@ ghost use Rattle.hex_line.specs.Walking.{digitValues};
 // Bytes of a line that are counted: one more than a frame can have, so that a longer line still reads as too long.
 pub const COUNTED: usize = 9001;
 
-// The line being read: the bytes complete so far, of which no more than COUNTED are counted; the digit that waits for its
-// second half, if odd says that there is one; and whether a character was no digit.
+// The line being read: the bytes complete so far, of which no more than COUNTED are counted; the digit that waits for
+// its second half, if odd says that there is one; and whether a character was no digit.
 pub struct Line {
     pub len: usize,
     pub half: u8,

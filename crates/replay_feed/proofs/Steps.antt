@@ -26,7 +26,6 @@ use Rattle.replay_line.specs.Report.{answeredLine, totalled}
 use Rattle.replay_text.specs.declared.Reply.the-variants.{Answered, Nothing, Refused}
 use Rattle.replay_text.specs.Text.{linesMost, memoryAtStart, noTotals}
 use Rattle.replay_text.specs.Feeding.{
-  past,
   nothingHeld,
   holding,
   answerHeld,

@@ -43,36 +43,36 @@ end-line-requires c κs = search needs
 
 returns-3 : tie.Need-returns-3
 returns-3 c =
-    let c6 = c .before .before .before .before .before .before in
-    let c8 = c6 .before .before in
-    let c10 = c8 .before .before in
-    let c12 = c10 .before .before in
-    let c14 = c12 .before .before in
-    let a = c14 .before .before .before .args in
+    let ended = c .before .before .before .before .before .before in
+    let taken = ended .before .before in
+    let line = taken .before .before in
+    let opened = line .before .before in
+    let room = opened .before .before in
+    let a = room .before .before .before .args in
     let n : length (a .frame .now) ≡ 9000 = omega arith in
-    fed-line (a .place .now) (a .words .now) (a .frame .now) (a .memory .now) (a .fragment .now) (c14 .if1 .left)
-    (c12 .if2 .left) (omega (arith, n)) _ _
-    (rw (c10 .line-in .ensures) at (c8 .take-in .ensures .0))
-    (rw (c10 .line-in .ensures) at (c8 .take-in .ensures .1))
-    (c6 .if3 .taken) _ (c .end-line .last .0) _ _ (c .end-line .ensures)
+    fed-line (a .place .now) (a .words .now) (a .frame .now) (a .memory .now) (a .fragment .now) (room .if1 .left)
+    (opened .if2 .left) (omega (arith, n)) _ _
+    (rw (line .line-in .ensures) at (taken .take-in .ensures .0))
+    (rw (line .line-in .ensures) at (taken .take-in .ensures .1))
+    (ended .if3 .taken) _ (c .end-line .last .0) _ _ (c .end-line .ensures)
 
 keep-line-requires : tie.Need-keep-line-requires
 keep-line-requires c κs = search needs
 
 returns-4 : tie.Need-returns-4
 returns-4 c =
-    let c2 = c .before .before in
-    let c4 = c2 .before .before in
-    let c6 = c4 .before .before in
-    let c8 = c6 .before .before in
-    let c10 = c8 .before .before in
-    let a = c10 .before .before .before .args in
+    let ended = c .before .before in
+    let taken = ended .before .before in
+    let line = taken .before .before in
+    let opened = line .before .before in
+    let room = opened .before .before in
+    let a = room .before .before .before .args in
     let n : length (a .frame .now) ≡ 9000 = omega arith in
-    fed-part (a .place .now) (a .words .now) (a .frame .now) (a .memory .now) (a .fragment .now) (c10 .if1 .left)
-    (c8 .if2 .left) (omega (arith, n)) _ _
-    (rw (c6 .line-in .ensures) at (c4 .take-in .ensures .0))
-    (rw (c6 .line-in .ensures) at (c4 .take-in .ensures .1))
-    (c2 .if3 .left) _ (c .keep-line .ensures)
+    fed-part (a .place .now) (a .words .now) (a .frame .now) (a .memory .now) (a .fragment .now) (room .if1 .left)
+    (opened .if2 .left) (omega (arith, n)) _ _
+    (rw (line .line-in .ensures) at (taken .take-in .ensures .0))
+    (rw (line .line-in .ensures) at (taken .take-in .ensures .1))
+    (ended .if3 .left) _ (c .keep-line .ensures)
 
 pub feed-spec : {M : Type 1} → statement M
 feed-spec =
