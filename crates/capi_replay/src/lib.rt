@@ -8,7 +8,7 @@ ghost use Rattle.replay_text.specs.Feeding.{feed as feedOf, close as closeOf};
 ghost use Rattle.replay_feed.specs.State.{replayingOf, OpensReplay};
 ghost use Rattle.capi_replay.specs.Replies.{replyNumber, replyWords, totalsUnlessRefused};
 
-// OpensReplay a replay.
+// Opens a replay.
 #[no_mangle]
 pub extern "C" fn lw_raw_replay_open(
     place: &mut [u64; 9],

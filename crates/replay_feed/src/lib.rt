@@ -103,7 +103,7 @@ fn place_of(totals: Totals, lines: u64, closed: u64, line: Line) -> [u64; 9]
     ]
 }
 
-// OpensReplay a replay: its host has ID 1 and the peer 2, and the memory is all zero.
+// Opens a replay: its host has ID 1 and the peer 2, and the memory is all zero.
 pub fn open(place: &mut [u64; 9], words: &mut [u64; 67], memory: &mut [u8; 4096])
     ensures { λ _. ⌜ now (memory .exit) ≡ replicate 4096 0 ⌝ }
     ensures { λ _. ⌜ OpensReplay (now (place .exit)) (now (words .exit)) (now (memory .exit)) ⌝ }
@@ -147,9 +147,9 @@ fn keep_line(place: &mut [u64; 9], line: Line)
     *place = place_of(totals, lines, 0, line);
 }
 
-// Takes a fragment through the first newline, and answers that line and how many bytes were taken, the newline
-// included. Without one, or after LINES_MOST lines, it takes all and answers the bytes only. Once closed, it takes
-// nothing and is refused with 17.
+// Feeds a fragment. Where it has a newline, the line up to there is answered, and what follows is for the next call;
+// where it has none, or LINES_MOST lines are answered, it is used up and no line is answered. Once closed, the replay
+// uses up nothing and refuses with 17.
 pub fn feed(
     place: &mut [u64; 9],
     words: &mut [u64; 67],
