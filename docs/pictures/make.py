@@ -667,7 +667,6 @@ BANDS = {
     "replay": (30, 480, 0), "capi": (600, 970, 0), "text": (30, 440, 1), "face": (520, 970, 1), "theorem": (30, 970, 2),
     "card": (30, 480, 3), "host": (520, 970, 3), "wire": (30, 970, 4), "ground": (30, 660, 5), "kit": (700, 970, 5),
 }
-HEIGHTS = [76, 76, 76, 112, 76, 76]
 # The handful of arrows, each from a floor to one below it that it stands on, and the x at which it is drawn.
 STANDS = [("replay", "text", 235), ("capi", "face", 820), ("face", "theorem", 745), ("theorem", "card", 255),
           ("theorem", "host", 745), ("card", "wire", 255), ("host", "wire", 745), ("wire", "ground", 345), ("ground", "kit", None)]
@@ -698,41 +697,52 @@ def read_crates():
     return sees
 
 
-def band_y(row):
-    return 56 + sum(HEIGHTS[:row]) + 34 * row
+def box_width(name):
+    return 18 + 7.9 * len(name)
 
 
-def boxes(p, names, left, right, y):
-    """The crates of a floor in lines of boxes, as many to a line as have room."""
-    x = left + 14
+def box_lines(names, left, right):
+    """The crates of a floor in lines, as many to a line as have room."""
+    lines, x = [], right
     for name in names:
-        wide = 18 + 7.9 * len(name)
-        if x + wide > right - 8:
-            x, y = left + 14, y + 36
-        p.rect(x, y, wide, 28, "#ffffff", round=5)
-        p.text(x + wide / 2, y + 19, name, 13, mono=True)
-        x += wide + 10
+        if x + box_width(name) > right - 8:
+            lines.append([])
+            x = left + 14
+        lines[-1].append((x, name))
+        x += box_width(name) + 10
+    return lines
+
+
+def boxes(p, lines, y):
+    for i, line in enumerate(lines):
+        for x, name in line:
+            p.rect(x, y + 36 * i, box_width(name), 28, "#ffffff", round=5)
+            p.text(x + box_width(name) / 2, y + 36 * i + 19, name, 13, mono=True)
 
 
 def draw_crates(sees):
-    p = Picture("crates.svg", 1000, band_y(len(HEIGHTS)) + 6, "The house: floors, their crates, and which floor stands on which")
-    p.text(30, 28, "A floor stands on those that its arrows lead to, and on what is below them.", 12.5, "start", SOFT)
     names = list(sees) + sorted({b for seen in sees.values() for b in seen if b not in sees})
+    lines = {f: box_lines([n for n in names if floor_of(n) == f], left, right) for f, (left, right, _) in BANDS.items()}
+    # a row is as high as its floor with the most lines needs
+    rows = range(1 + max(row for _, _, row in BANDS.values()))
+    heights = [max(40 + 36 * len(lines[f]) for f, (_, _, at) in BANDS.items() if at == row) for row in rows]
+    tops = [56 + sum(heights[:row]) + 34 * row for row in rows]
+    p = Picture("crates.svg", 1000, tops[-1] + heights[-1] + 40, "The house: floors, their crates, and which floor stands on which")
+    p.text(30, 28, "A floor stands on those that its arrows lead to, and on what is below them.", 12.5, "start", SOFT)
     for floor, (left, right, row) in BANDS.items():
         title, fill, _ = FLOORS[floor]
-        p.rect(left, band_y(row), right - left, HEIGHTS[row], fill, RULE, 10, "4 3" if floor == "kit" else "", 0.8)
-        p.text(left + 14, band_y(row) + 20, title, 11.5, "start", SOFT)
-        boxes(p, [n for n in names if floor_of(n) == floor], left, right, band_y(row) + 32)
+        p.rect(left, tops[row], right - left, heights[row], fill, RULE, 10, "4 3" if floor == "kit" else "", 0.8)
+        p.text(left + 14, tops[row] + 20, title, 11.5, "start", SOFT)
+        boxes(p, lines[floor], tops[row] + 32)
     for above, below, x in STANDS:
-        top, bottom = BANDS[above], BANDS[below]
+        (_, right, row), (left, _, to) = BANDS[above], BANDS[below]
         if x is None:
-            y = band_y(top[2]) + HEIGHTS[top[2]] / 2
-            p.line(top[1], y, bottom[0], y, arrow=True)
+            y = tops[row] + heights[row] / 2
+            p.line(right, y, left, y, arrow=True)
         else:
-            p.line(x, band_y(top[2]) + HEIGHTS[top[2]], x, band_y(bottom[2]), arrow=True)
+            p.line(x, tops[row] + heights[row], x, tops[to], arrow=True)
     # the program stands on the face too, which begins further to the right
-    y = band_y(0) + HEIGHTS[0] - 14
-    p.path(f"M480 {num(y)}H560V{num(band_y(1))}", arrow=True)
+    p.path(f"M480 {num(tops[0] + heights[0] - 14)}H560V{num(tops[1])}", arrow=True)
     return p
 
 
