@@ -17,6 +17,7 @@ ghost use Rattle.logwhisker.specs.Face.{
   acksRead,
   frameShown,
   nextChosen,
+  LeftIfRefused,
 };
 ghost use Rattle.capi_card.specs.Numbers.{unlessRefused, partNumbers, choiceNumbers};
 
@@ -49,6 +50,7 @@ pub extern "C" fn lw_raw_card_open_transaction(
     ensures { λ _. ⌜ now (transaction .exit)
         ≡ unlessRefused (transactionOpened (now (words .entry)) count address value .refusal)
         (openTransaction (cardOf (now (words .entry))) count address value .trans .0) (now (transaction .entry)) ⌝ }
+    ensures { λ r. ⌜ LeftIfRefused r (now (words .entry)) (now (words .exit)) ⌝ }
 {
     let opened = logwhisker::open_transaction(words, count, address, value);
     if opened.refusal != 0 {
@@ -73,6 +75,7 @@ pub extern "C" fn lw_raw_card_add(
         ≡ messageAdded (now (words .entry)) (now (slots .entry)) transaction address (now (payload .entry)) .card ⌝ }
     ensures { λ _. ⌜ now (slots .exit)
         ≡ messageAdded (now (words .entry)) (now (slots .entry)) transaction address (now (payload .entry)) .slots ⌝ }
+    ensures { λ r. ⌜ LeftIfRefused r (now (words .entry)) (now (words .exit)) ⌝ }
 {
     logwhisker::add_message(words, slots, TransNo(transaction), address, payload) as u32
 }
@@ -85,6 +88,7 @@ pub extern "C" fn lw_raw_card_seal(words: &mut [u64; 85], slots: &[u8], number: 
     ensures { λ _. ⌜ now (number .exit)
         ≡ unlessRefused (frameSealed (now (words .entry)) (now (slots .entry)) .refusal)
         (sealFrame (cardOf (now (words .entry))) (now (slots .entry)) .number .0) (now (number .entry)) ⌝ }
+    ensures { λ r. ⌜ LeftIfRefused r (now (words .entry)) (now (words .exit)) ⌝ }
 {
     let sealed = logwhisker::seal_frame(words, slots);
     if sealed.refusal != 0 {
@@ -99,6 +103,7 @@ pub extern "C" fn lw_raw_card_seal(words: &mut [u64; 85], slots: &[u8], number: 
 pub extern "C" fn lw_raw_card_read(words: &mut [u64; 85], frame: &[u8]) -> u32
     ensures { λ r. ⌜ r ≡ acksRead (now (words .entry)) (now (frame .entry)) .refusal ⌝ }
     ensures { λ _. ⌜ cardOf (now (words .exit)) ≡ acksRead (now (words .entry)) (now (frame .entry)) .card ⌝ }
+    ensures { λ r. ⌜ LeftIfRefused r (now (words .entry)) (now (words .exit)) ⌝ }
 {
     logwhisker::read_acknowledgements(words, frame) as u32
 }

@@ -5,6 +5,7 @@ use logwhisker::FrameNo;
 ghost use mathlib.Core.Path.{_≡_};
 ghost use lib.ListN.{getD};
 ghost use Rattle.host.specs.Host.{answerWords, answerOf};
+ghost use Rattle.host_receive.specs.Receiving.{LeavesWords};
 ghost use Rattle.host_describe.specs.Describing.{description as descriptionOf};
 ghost use Rattle.host_words.specs.Words.{pairOf};
 ghost use Rattle.logwhisker.specs.Face.{hostOpened, received, acknowledged};
@@ -35,6 +36,8 @@ pub extern "C" fn lw_raw_host_receive(
         ≡ received (now (words .entry)) (now (frame .entry)) (now (memory .entry)) .memory ⌝ }
     ensures { λ _. ⌜ now (answer .exit)
         ≡ answerWords (received (now (words .entry)) (now (frame .entry)) (now (memory .entry)) .answer) ⌝ }
+    ensures { λ _. ⌜ LeavesWords (received (now (words .entry)) (now (frame .entry)) (now (memory .entry)) .answer)
+        (now (words .entry)) (now (words .exit)) ⌝ }
 {
     let a = logwhisker::receive(words, frame, memory);
     logwhisker::put_answer(answer, a);

@@ -1,6 +1,8 @@
 -- What the library's functions answer and leave, said by the very ends that the theorem of delivery is about: each line
 -- is a field of `specifiedHost` or `specifiedCard`, on the pair or the card that the lent words hold.
 use Prim.Native.Nat.{ℕ}
+use mathlib.Core.Path.{_≡_}
+use mathlib.Core.Logic.{_≢_}
 use mathlib.Core.List.{List, []}
 use Rattle.host.specs.declared.Answer.{Answer}
 use Rattle.host.specs.declared.Opened.{Opened}
@@ -22,6 +24,10 @@ abbrev pub acknowledged : List ℕ → Answer → ℕ → Acknowledgement
 acknowledged words answer number = specifiedHost .acknowledging (pairOf words) answer number
 
 -- ---- the card
+
+-- A refused step leaves the lent words as they were, word for word.
+abbrev pub LeftIfRefused : ℕ → List ℕ → List ℕ → Type 0
+LeftIfRefused refusal words left = refusal ≢ 0 → left ≡ words
 
 abbrev pub cardOpened : ℕ → ℕ → ℕ → List ℕ → CardResult
 cardOpened own peer limit slots = specifiedCard .cardOpening own peer limit slots

@@ -23,6 +23,7 @@ ghost use Rattle.host_words.specs.Words.{pairOf};
 ghost use Rattle.card_words.specs.Words.{cardOf};
 ghost use Rattle.card.specs.Card.{openTransaction, sealFrame};
 ghost use Rattle.host.specs.Host.{steppedOf, answerOf};
+ghost use Rattle.host_receive.specs.Receiving.{LeavesWords};
 ghost use Rattle.host_describe.specs.Describing.{description};
 ghost use Rattle.delivery.specs.System.{specifiedHost};
 ghost use Rattle.card_show.specs.Parts.{shownPart};
@@ -38,6 +39,7 @@ ghost use Rattle.logwhisker.specs.Face.{
   acksRead,
   frameShown,
   nextChosen,
+  LeftIfRefused,
 };
 
 // ---- the host, in 67 words
@@ -57,6 +59,7 @@ pub fn receive(words: &mut [u64; 67], frame: &[u8], memory: &mut [u8]) -> Answer
         ≡ received (now (words .entry)) (now (frame .entry)) (now (memory .entry)) .pair ⌝ }
     ensures { λ _. ⌜ now (memory .exit)
         ≡ received (now (words .entry)) (now (frame .entry)) (now (memory .entry)) .memory ⌝ }
+    ensures { λ r. ⌜ LeavesWords r (now (words .entry)) (now (words .exit)) ⌝ }
 {
     host_receive::receive_in_place(words, frame, memory)
 }
@@ -128,6 +131,7 @@ pub fn open_transaction(
     ensures { λ r. ⌜ r .refusal ≡ transactionOpened (now (words .entry)) count address value .refusal ⌝ }
     ensures { λ r. ⌜ r .trans ≡ openTransaction (cardOf (now (words .entry))) count address value .trans ⌝ }
     ensures { λ _. ⌜ cardOf (now (words .exit)) ≡ transactionOpened (now (words .entry)) count address value .card ⌝ }
+    ensures { λ r. ⌜ LeftIfRefused (r .refusal) (now (words .entry)) (now (words .exit)) ⌝ }
 {
     card_number::open_transaction(words, count, address, value)
 }
@@ -146,6 +150,7 @@ pub fn add_message(
         ≡ messageAdded (now (words .entry)) (now (slots .entry)) (trans .0) address (now (payload .entry)) .card ⌝ }
     ensures { λ _. ⌜ now (slots .exit)
         ≡ messageAdded (now (words .entry)) (now (slots .entry)) (trans .0) address (now (payload .entry)) .slots ⌝ }
+    ensures { λ r. ⌜ LeftIfRefused r (now (words .entry)) (now (words .exit)) ⌝ }
 {
     card_build::add_message(words, slots, trans, address, payload)
 }
@@ -155,6 +160,7 @@ pub fn seal_frame(words: &mut [u64; 85], slots: &[u8]) -> SealedFrame
     ensures { λ r. ⌜ r .refusal ≡ frameSealed (now (words .entry)) (now (slots .entry)) .refusal ⌝ }
     ensures { λ r. ⌜ r .number ≡ sealFrame (cardOf (now (words .entry))) (now (slots .entry)) .number ⌝ }
     ensures { λ _. ⌜ cardOf (now (words .exit)) ≡ frameSealed (now (words .entry)) (now (slots .entry)) .card ⌝ }
+    ensures { λ r. ⌜ LeftIfRefused (r .refusal) (now (words .entry)) (now (words .exit)) ⌝ }
 {
     card_number::seal_frame(words, slots)
 }
@@ -163,6 +169,7 @@ pub fn seal_frame(words: &mut [u64; 85], slots: &[u8]) -> SealedFrame
 pub fn read_acknowledgements(words: &mut [u64; 85], frame: &[u8]) -> u8
     ensures { λ r. ⌜ r ≡ acksRead (now (words .entry)) (now (frame .entry)) .refusal ⌝ }
     ensures { λ _. ⌜ cardOf (now (words .exit)) ≡ acksRead (now (words .entry)) (now (frame .entry)) .card ⌝ }
+    ensures { λ r. ⌜ LeftIfRefused r (now (words .entry)) (now (words .exit)) ⌝ }
 {
     card_acks::read_acknowledgements(words, frame)
 }

@@ -26,7 +26,7 @@ returns : tie.Need-returns
 returns c =
     let k = c .before .before .before .before .before .receive .ensures in (
       c .kind-of .ensures ∙ rw (k .0),
-      (k .1 .0, (k .1 .1, c .before .put-answer .ensures ∙ rw (k .0))),
+      (k .1 .0, (k .1 .1 .0, (c .before .put-answer .ensures ∙ rw (k .0), rw (← (k .0)) (k .1 .1 .1)))),
     )
 
 pub lw-raw-host-receive-spec : {M : Type 1} → statement M

@@ -31,7 +31,7 @@ refusing-requires : tie.Need-refusing-requires
 refusing-requires c κs = search needs
 
 returns : tie.Need-returns
-returns c = (λ l. absurd (c .before .if1 .taken l), λ n. (refl, refl, c .refusing .ensures))
+returns c = (λ l. absurd (c .before .if1 .taken l), λ n. (refl, refl, c .refusing .ensures), λ q. refl)
 
 own-requires : tie.Need-own-requires
 own-requires c κs = search needs
@@ -57,7 +57,7 @@ returns-2 c =
     (named .before .before .own .ensures) (named .peer .ensures)
     (c .before .before .heading-refusal .ensures) (a .memory .now) (c .before .if2 .taken) in
     let s = stays _ _ _ _ e in
-    (λ l. (s .0, s .1, c .refusing2 .ensures ∙ s .2), λ n. absurd (n (sized .if1 .left)))
+    (λ l. (s .0, s .1, c .refusing2 .ensures ∙ s .2), λ n. absurd (n (sized .if1 .left)), λ q. refl)
 
 frame-header-requires : tie.Need-frame-header-requires
 frame-header-requires c κs = search needs
@@ -90,7 +90,7 @@ returns-3 c =
     let a = start e .args in
     let s = stays _ _ _ _
     (none-there (lent e) (a .f .now) (a .memory .now) (good e) _ (e .frame-header .ensures) (c .if3 .taken)) in
-    (λ l. s, λ n. absurd (n (long e)))
+    (λ l. s, λ n. absurd (n (long e)), λ q. refl)
 
 next-requires : tie.Need-next-requires
 next-requires c κs = search needs
@@ -132,6 +132,7 @@ returns-4 c =
             (s .2),
       ),
       λ n. absurd (n (long e)),
+      λ q. refl,
     )
 
 take-in-requires : tie.Need-take-in-requires
@@ -155,10 +156,9 @@ returns-5 c =
     (rw (away .before .next .ensures) at (away .distance .ensures)) (next-lt (a .words .now))
     (rw (new .before .before .marks .ensures) at (new .before .before .marks .ok)) in
     let new-is = rw (new .before .before .marks .ensures) at (new .before .is-new .ensures) in
-    let lies = new-in (p .marks) _ (sym new-is ∙ not-false _ (new .if4 .left)) in (
-      λ l. c .before .before .before .before .take-in .ensures _ w (lies .0) (lies .1) l,
-      λ n. absurd (n (long e)),
-    )
+    let lies = new-in (p .marks) _ (sym new-is ∙ not-false _ (new .if4 .left)) in
+    let k = c .before .before .before .before .take-in .ensures _ w (lies .0) (lies .1) (long e) in
+    (λ l. (k .0, k .1, k .2), λ n. absurd (n (long e)), k .3)
 
 pub receive-in-place-spec : {M : Type 1} → statement M
 receive-in-place-spec =

@@ -1,6 +1,7 @@
 -- `host_receive::take_in`: refused and nothing changed, or both passes.
 -- Assumes nothing.
-use mathlib.Core.Path.{sym, ap, _∙_}
+use mathlib.Core.Path.{refl, sym, ap, _∙_}
+use mathlib.Core.Bool.{true≢false}
 use Rattle.host.specs.Host.{Received}
 use Rattle.host_words.specs.Words.{pairOf}
 use Rattle.host_receive.proofs.Awaiting.{stays, new-refused, new-taken}
@@ -38,8 +39,12 @@ returns c =
     let a = stopped .before .before .before .before .before .before .before .args in
     let e = new-refused (pairOf (a .words .now)) (a .f .now) (a .memory .now) _ d w new clear _
     (stopped .before .before .validate .ensures) (stopped .if1 .taken) in
-    let s = stays _ _ _ _ e in
-    (s .0, s .1, c .refuse .ensures ∙ rw (c .before .peer .ensures, c .before .before .before .own .ensures) (s .2))
+    let s = stays _ _ _ _ e in (
+      s .0,
+      s .1,
+      c .refuse .ensures ∙ rw (c .before .peer .ensures, c .before .before .before .own .ensures) (s .2),
+      λ q. refl,
+    )
 
 apply-requires : tie.Need-apply-requires
 apply-requires c κs = search needs
@@ -66,6 +71,7 @@ returns-2 c =
           ∙ rw (applied .ensures .0 l .0) (sym (ap (λ (r : Received). r .pair) n)),
       applied .ensures .0 l .1 ∙ sym (ap (λ (r : Received). r .memory) n),
       rw (c .before .before .accept .ensures .0, applied .ensures .0 l .0) (sym (ap (λ (r : Received). r .answer) n)),
+      λ q. absurd (true≢false q),
     )
 
 pub take-in-spec : {M : Type 1} → statement M

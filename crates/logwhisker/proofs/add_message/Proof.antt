@@ -24,7 +24,7 @@ returns c =
     let a = c .before .before .before .before .before .before .before .args in
     let e : length (a .words .now) ≡ 85 = omega arith in
     let k = c .before .before .add-message .ensures in
-    (k .0 ∙ rw (eq-eqb _ 85 e), (k .1 .0 .0 e, k .1 .1 ∙ rw (eq-eqb _ 85 e)))
+    (k .0 ∙ rw (eq-eqb _ 85 e), (k .1 .0 .0 e, (k .1 .1 ∙ rw (eq-eqb _ 85 e), k .1 .0 .1)))
 
 pub add-message-spec : {M : Type 1} → statement M
 add-message-spec = tie.close (tie.spec add-message-requires same-length returns)

@@ -22,7 +22,7 @@ returns c =
     let e : length (c .before .before .args .words .now) ≡ 85 = omega arith in
     let k = c .open-transaction .ensures in (
       ap (λ (o : OpenedTransaction). o .refusal) (k .0) ∙ rw (eq-eqb _ 85 e),
-      (ap (λ (o : OpenedTransaction). o .trans) (k .0) ∙ rw (eq-eqb _ 85 e), k .1 .0 e),
+      (ap (λ (o : OpenedTransaction). o .trans) (k .0) ∙ rw (eq-eqb _ 85 e), (k .1 .0 e, k .1 .1)),
     )
 
 pub open-transaction-spec : {M : Type 1} → statement M

@@ -18,7 +18,7 @@ returns : tie.Need-returns
 returns c =
     let e : length (c .before .before .before .args .words .now) ≡ 85 = omega arith in
     let k = c .read-acknowledgements .ensures in
-    (k .0 ∙ rw (eq-eqb _ 85 e), k .1 .0 e)
+    (k .0 ∙ rw (eq-eqb _ 85 e), (k .1 .0 e, k .1 .1))
 
 pub read-acknowledgements-spec : {M : Type 1} → statement M
 read-acknowledgements-spec = tie.close (tie.spec read-acknowledgements-requires returns)

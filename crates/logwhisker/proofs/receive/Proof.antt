@@ -20,8 +20,8 @@ returns : tie.Need-returns
 returns c =
     let a = c .before .before .before .before .before .before .before .args in
     let e : length (a .words .now) ≡ 67 = omega arith in
-    let k = c .before .before .receive-in-place .ensures .0 e in
-    (k .2, (k .0, k .1))
+    let k = c .before .before .receive-in-place .ensures in
+    (k .0 e .2, (k .0 e .0, (k .0 e .1, k .2)))
 
 pub receive-spec : {M : Type 1} → statement M
 receive-spec = tie.close (tie.spec receive-in-place-requires same-length returns)

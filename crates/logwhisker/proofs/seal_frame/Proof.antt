@@ -22,7 +22,7 @@ returns c =
     let e : length (c .before .before .before .args .words .now) ≡ 85 = omega arith in
     let k = c .seal-frame .ensures in (
       ap (λ (s : SealedFrame). s .refusal) (k .0) ∙ rw (eq-eqb _ 85 e),
-      (ap (λ (s : SealedFrame). s .number) (k .0) ∙ rw (eq-eqb _ 85 e), k .1 .0 e),
+      (ap (λ (s : SealedFrame). s .number) (k .0) ∙ rw (eq-eqb _ 85 e), (k .1 .0 e, k .1 .1)),
     )
 
 pub seal-frame-spec : {M : Type 1} → statement M
