@@ -652,27 +652,34 @@ FLOORS = {
     "host": ("host: the receiver, an engine in place over lent words", AMBER, ("kit", "ground", "wire")),
     "card": ("card: the sender, an engine in place over lent words", GREEN, ("kit", "ground", "wire")),
     "theorem": ("theorem: exactly once, over lists of calls; no code", VIOLET, ("ground", "wire", "host", "card")),
-    "face": ("face: what a Rattle caller uses", TEAL, ("ground", "wire", "host", "card", "theorem")),
     "text": ("text: hexadecimal and decimal lines", ROSE, ("kit", "ground")),
-    "replay": ("replay: a text, whole and in fragments; the program", ROSE, ("kit", "ground", "wire", "host", "face", "text")),
-    "capi": ("C: what the header is made of", TEAL, ("kit", "ground", "wire", "host", "card", "theorem", "face", "text", "replay")),
+    "replay": ("replay: a text, whole and in fragments", ROSE, ("kit", "ground", "wire", "host", "text")),
+    "face": ("face: what a Rattle caller uses", TEAL, ("ground", "wire", "host", "card", "theorem", "text", "replay")),
+    "program": ("program: input and output", ROSE, ("kit", "ground", "wire", "host", "text", "replay")),
+    "capi": ("C: what the header is made of", TEAL, ("kit", "ground", "wire", "host", "card", "theorem", "text", "replay", "face")),
 }
 NAMED = {
     "seq": "ground", "bitmap": "ground", "octets": "ground", "refusal": "ground", "delivery": "theorem", "edges": "theorem",
     "logwhisker": "face", "hex": "text", "bytes": "kit", "io": "kit", "libc": "kit", "os": "kit",
 }
+PROGRAMS = {"replay"}
 
-# Where a floor is drawn: left, right, row from above.
+# Where a floor is drawn: left, right, row from above. A row is as high as its fullest floor.
 BANDS = {
-    "replay": (30, 480, 0), "capi": (600, 970, 0), "text": (30, 440, 1), "face": (520, 970, 1), "theorem": (30, 970, 2),
-    "card": (30, 480, 3), "host": (520, 970, 3), "wire": (30, 970, 4), "ground": (30, 660, 5), "kit": (700, 970, 5),
+    "program": (30, 480, 0), "capi": (520, 970, 0), "replay": (30, 480, 1), "face": (520, 970, 1), "text": (30, 425, 2),
+    "theorem": (520, 970, 2), "host": (30, 480, 3), "card": (520, 970, 3), "wire": (30, 970, 4), "ground": (30, 660, 5),
+    "kit": (700, 970, 5),
 }
-# The handful of arrows, each from a floor to one below it that it stands on, and the x at which it is drawn.
-STANDS = [("replay", "text", 235), ("capi", "face", 820), ("face", "theorem", 745), ("theorem", "card", 255),
-          ("theorem", "host", 745), ("card", "wire", 255), ("host", "wire", 745), ("wire", "ground", 345), ("ground", "kit", None)]
+# The handful of arrows, each from a floor to one that it stands on, and the x at which it is drawn; beside each other,
+# it goes from edge to edge.
+STANDS = [("program", "replay", 255), ("capi", "face", 745), ("face", "replay", None), ("face", "theorem", 745),
+          ("replay", "text", 225), ("replay", "host", 445), ("theorem", "card", 745), ("host", "wire", 255),
+          ("card", "wire", 745), ("wire", "ground", 345), ("ground", "kit", None)]
 
 
 def floor_of(name):
+    if name in PROGRAMS:
+        return "program"
     for word in (name, name.split("_")[0]):
         if word in NAMED:
             return NAMED[word]
@@ -697,52 +704,46 @@ def read_crates():
     return sees
 
 
-def box_width(name):
-    return 18 + 7.9 * len(name)
-
-
-def box_lines(names, left, right):
-    """The crates of a floor in lines, as many to a line as have room."""
-    lines, x = [], right
+def lines_of(names, left, right):
+    """The crates of a floor in lines, as many to a line as have room; each with its left edge and its width."""
+    lines, x = [[]], left + 14
     for name in names:
-        if x + box_width(name) > right - 8:
+        wide = 18 + 7.9 * len(name)
+        if lines[-1] and x + wide > right - 8:
             lines.append([])
             x = left + 14
-        lines[-1].append((x, name))
-        x += box_width(name) + 10
+        lines[-1].append((name, x, wide))
+        x += wide + 10
     return lines
-
-
-def boxes(p, lines, y):
-    for i, line in enumerate(lines):
-        for x, name in line:
-            p.rect(x, y + 36 * i, box_width(name), 28, "#ffffff", round=5)
-            p.text(x + box_width(name) / 2, y + 36 * i + 19, name, 13, mono=True)
 
 
 def draw_crates(sees):
     names = list(sees) + sorted({b for seen in sees.values() for b in seen if b not in sees})
-    lines = {f: box_lines([n for n in names if floor_of(n) == f], left, right) for f, (left, right, _) in BANDS.items()}
-    # a row is as high as its floor with the most lines needs
+    lines = {f: lines_of([n for n in names if floor_of(n) == f], left, right) for f, (left, right, _) in BANDS.items()}
     rows = range(1 + max(row for _, _, row in BANDS.values()))
-    heights = [max(40 + 36 * len(lines[f]) for f, (_, _, at) in BANDS.items() if at == row) for row in rows]
-    tops = [56 + sum(heights[:row]) + 34 * row for row in rows]
-    p = Picture("crates.svg", 1000, tops[-1] + heights[-1] + 40, "The house: floors, their crates, and which floor stands on which")
+    high = [40 + 36 * max(len(lines[f]) for f in BANDS if BANDS[f][2] == row) for row in rows]
+    top = [56 + sum(high[:row]) + 34 * row for row in rows]
+    p = Picture("crates.svg", 1000, top[-1] + high[-1] + 40, "The house: floors, their crates, and which floor stands on which")
     p.text(30, 28, "A floor stands on those that its arrows lead to, and on what is below them.", 12.5, "start", SOFT)
     for floor, (left, right, row) in BANDS.items():
         title, fill, _ = FLOORS[floor]
-        p.rect(left, tops[row], right - left, heights[row], fill, RULE, 10, "4 3" if floor == "kit" else "", 0.8)
-        p.text(left + 14, tops[row] + 20, title, 11.5, "start", SOFT)
-        boxes(p, lines[floor], tops[row] + 32)
+        p.rect(left, top[row], right - left, high[row], fill, RULE, 10, "4 3" if floor == "kit" else "", 0.8)
+        p.text(left + 14, top[row] + 20, title, 11.5, "start", SOFT)
+        for i, line in enumerate(lines[floor]):
+            for name, x, wide in line:
+                p.rect(x, top[row] + 32 + 36 * i, wide, 28, "#ffffff", round=5)
+                p.text(x + wide / 2, top[row] + 51 + 36 * i, name, 13, mono=True)
     for above, below, x in STANDS:
-        (_, right, row), (left, _, to) = BANDS[above], BANDS[below]
-        if x is None:
-            y = tops[row] + heights[row] / 2
-            p.line(right, y, left, y, arrow=True)
+        (left, right, row), (left2, right2, row2) = BANDS[above], BANDS[below]
+        y = top[row] + high[row] / 2
+        if x is not None:
+            p.line(x, top[row] + high[row], x, top[row2], arrow=True)
+        elif left < left2:
+            p.line(right, y, left2, y, arrow=True)
         else:
-            p.line(x, tops[row] + heights[row], x, tops[to], arrow=True)
-    # the program stands on the face too, which begins further to the right
-    p.path(f"M480 {num(tops[0] + heights[0] - 14)}H560V{num(tops[1])}", arrow=True)
+            p.line(left, y, right2, y, arrow=True)
+    # the theorem stands on the host too, which lies to its left
+    p.path(f"M520 {num(top[2] + high[2] / 2)}H465V{num(top[3])}", arrow=True)
     return p
 
 

@@ -1,7 +1,7 @@
 // The replay from fragments for C, behind the functions of include/logwhisker.h: numbers, slices and references to
 // arrays only. Assumes of a caller that pointers and lengths are right. It promises what replay_feed does, with what
 // is said of a line as a number and words (specs/Replies.antt).
-use replay_feed::Reply;
+use logwhisker::Reply;
 ghost use mathlib.Core.Path.{_≡_};
 ghost use lib.ListN.{replicate};
 ghost use Rattle.replay_text.specs.Feeding.{feed as feedOf, close as closeOf};
@@ -18,7 +18,7 @@ pub extern "C" fn lw_raw_replay_open(
     ensures { λ _. ⌜ now (memory .exit) ≡ replicate 4096 0 ⌝ }
     ensures { λ _. ⌜ OpensReplay (now (place .exit)) (now (words .exit)) (now (memory .exit)) ⌝ }
 {
-    replay_feed::open(place, words, memory);
+    logwhisker::open_replay(place, words, memory);
 }
 
 // The number of what is said of a line; an answer's words are written.
@@ -63,7 +63,7 @@ pub extern "C" fn lw_raw_replay_feed(
         (replayingOf (now (place .entry)) (now (words .entry)) (now (frame .entry)) (now (memory .entry)))
         (now (fragment .entry)) .reply) (now (answer .entry)) ⌝ }
 {
-    let fed = replay_feed::feed(place, words, frame, memory, fragment);
+    let fed = logwhisker::feed_replay(place, words, frame, memory, fragment);
     *taken = fed.taken;
     let reply = fed.reply;
     put_reply(answer, reply)
@@ -93,7 +93,7 @@ pub extern "C" fn lw_raw_replay_close(
         (replayingOf (now (place .entry)) (now (words .entry)) (now (frame .entry)) (now (memory .entry))))
         (now (totals .entry)) ⌝ }
 {
-    let closed = replay_feed::close(place, words, frame, memory);
+    let closed = logwhisker::close_replay(place, words, frame, memory);
     let t = closed.totals;
     let reply = closed.reply;
     let said = put_reply(answer, reply);

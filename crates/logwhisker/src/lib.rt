@@ -1,6 +1,7 @@
 // The library's face: what a caller in Rattle uses. Both ends in place over words that the caller lends, and the host
-// by value; a frame's layout; a refusal's class. Assumes nothing: any words are a state, and any bytes get an answer.
-// It promises what specs/Face.antt says, which is what the theorem of the crate delivery is about.
+// by value; a frame's layout; a refusal's class; the replay from fragments. Assumes nothing: any words are a state, and
+// any bytes get an answer. It promises what specs/Face.antt says, which is what the theorem of the crate delivery is
+// about; what it passes on promises by the definitions of its own crate.
 pub use card_choose::Choice;
 pub use card_number::OpenedTransaction;
 pub use card_number::SealedFrame;
@@ -14,6 +15,14 @@ pub use host_answer::kind_of;
 pub use host_answer::put_answer;
 pub use refusal::class_number;
 pub use refusal::class_of;
+pub use replay_feed::Closed;
+pub use replay_feed::Fed;
+pub use replay_feed::close as close_replay;
+pub use replay_feed::feed as feed_replay;
+pub use replay_feed::is_full as is_replay_full;
+pub use replay_feed::open as open_replay;
+pub use replay_line::Totals;
+pub use replay_text::Reply;
 pub use seq::FrameNo;
 pub use seq::TransNo;
 pub use wire_layout::Layout;

@@ -55,7 +55,11 @@ pub const BAD_LIMIT_OR_SLOTS: u8 = 26;
 
 pub const DATA_FOR_BARE: u8 = 27;
 
-// Other is the class of every number that no list above has.
+// ---- of no class: a replay from fragments
+
+pub const REPLAY_CLOSED: u8 = 17;
+
+// Other is the class of all other numbers, 17 among them.
 pub enum Class {
     Wire,
     Message,

@@ -4,6 +4,7 @@
 // replay_text/proofs/Fragments.antt shows that any way to cut a text gives the answers of the whole text.
 use hex_line::Line;
 pub use host::Answer;
+use refusal::REPLAY_CLOSED;
 use replay_line::Totals;
 pub use replay_text::Reply;
 ghost use mathlib.Core.Path.{_≡_};
@@ -29,9 +30,6 @@ pub const OWN: u16 = 1;
 
 // The ID of the card that it receives from.
 pub const PEER: u16 = 2;
-
-// The refusal of any call after the closing one.
-pub const REPLAY_CLOSED: u8 = 17;
 
 // Lines that are answered.
 pub const LINES_MOST: u64 = 1000000;
@@ -110,7 +108,7 @@ pub fn open(place: &mut [u64; 9], words: &mut [u64; 67], memory: &mut [u8; 4096]
 {
     *place = [0u64; 9];
     *memory = [0u8; 4096];
-    logwhisker::open_host(words, OWN, PEER);
+    host_open::open_in_place(words, OWN, PEER);
 }
 
 // Answers the line that has ended, its bytes at the start of frame. The next line has no character yet.

@@ -41,7 +41,7 @@ pub fn answer_line(words: &mut [u64; 67], line: Line, frame: &[u8], memory: &mut
             place: 0,
         });
     }
-    logwhisker::receive(words, octets::front(frame, line.len), memory)
+    host_receive::receive_in_place(words, octets::front(frame, line.len), memory)
 }
 
 // Writes an answer's line into out from at on, and answers the index behind it; where it does not fit, nothing is

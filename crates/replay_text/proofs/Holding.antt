@@ -29,7 +29,7 @@ use Rattle.hex_line.proofs.Decoding.{
 }
 use Rattle.host.specs.declared.Pair.{Pair}
 use Rattle.host.specs.Host.{unchanged, refused, receiveOf}
-use Rattle.logwhisker.proofs.TooLong.{too-long}
+use Rattle.host.proofs.TooLong.{too-long}
 use Rattle.replay_text.specs.Text.{answerTo}
 use Rattle.replay_text.specs.Feeding.{Held, within, past, nothingHeld, holdingOne, holding, answerHeld, isEmpty}
 use Rattle.replay_text.specs.Describing.{heldOf}

@@ -2,7 +2,8 @@
 -- Assumes nothing.
 use mathlib.Core.Path.{_≡_, sym, ap, _∙_}
 use borrow.Author.Tests.{lt-ltb, le-ltb}
-use lib.ListN.{take}
+use native.Mathlib.Omega.{arith}
+use lib.ListN.{length, take}
 use Rattle.host.specs.Host.{Received, unchanged, refused, receiveOf}
 use Rattle.host_words.specs.Words.{pairOf}
 use Rattle.replay_line.specs.Report.{answeredLine}
@@ -12,7 +13,7 @@ use Rattle.replay_line.proofs.answer_line.Tie as tie
 use Rattle.replay_line.proofs.answer_line.Reads as reads
 use Rattle.replay_line.proofs.answer_line.Lts as lts
 use Rattle.hex_line.proofs.Line.is_refused.Reads as is-refused-reads
-use Rattle.logwhisker.proofs.receive.Reads as receive-reads
+use Rattle.host_receive.proofs.receive_in_place.Reads as receive-in-place-reads
 use Rattle.octets.proofs.front.Reads as front-reads
 
 is-refused-requires : tie.Need-is-refused-requires
@@ -44,8 +45,8 @@ returns-2 c =
 front-requires : tie.Need-front-requires
 front-requires c κs = search needs
 
-receive-requires : tie.Need-receive-requires
-receive-requires c κs = search needs
+receive-in-place-requires : tie.Need-receive-in-place-requires
+receive-in-place-requires c κs = search needs
 
 same-length : tie.Need-same-length
 same-length c = search needs
@@ -62,11 +63,12 @@ returns-3 c =
     ≡ receiveOf p (take (a .line .len) (a .frame .now)) (a .memory .now) =
     rw (← c8 .before .is-refused .ensures, c8 .if1 .left, le-ltb 9000 (a .line .len) (c6 .if2 .left)) in
     let f = c4 .front .ensures in
-    let k = c .before .before .receive .ensures in (
-      (rw f at (k .0)) ∙ sym (ap (λ (r : Received). r .answer) e),
+    let n : length (a .words .now) ≡ 67 = omega arith in
+    let k = c .before .before .receive-in-place .ensures .0 n in (
+      (rw f at (k .2)) ∙ sym (ap (λ (r : Received). r .answer) e),
       (
-        (rw f at (k .1 .0)) ∙ sym (ap (λ (r : Received). r .pair) e),
-        (rw f at (k .1 .1)) ∙ sym (ap (λ (r : Received). r .memory) e),
+        (rw f at (k .0)) ∙ sym (ap (λ (r : Received). r .pair) e),
+        (rw f at (k .1)) ∙ sym (ap (λ (r : Received). r .memory) e),
       ),
     )
 
@@ -78,6 +80,6 @@ answer-line-spec =
     returns
     returns-2
     front-requires
-    receive-requires
+    receive-in-place-requires
     same-length
     returns-3)
