@@ -1,0 +1,4 @@
+pub mod Windows
+pub mod Messages
+pub mod Numbers
+pub mod Equality
