@@ -3,8 +3,7 @@
 use mathlib.Core.Path.{_≡_, refl, sym, ap, _∙_}
 use mathlib.Core.Logic.{_≢_, _⊎_, inl, inr}
 use mathlib.Core.Bool.{Bool, true, false}
-use Prim.Native.Nat.{ℕ, zero, suc, _+_, _<_}
-use native.Mathlib.Numerals.{add-one}
+use Prim.Native.Nat.{ℕ, zero, suc, _<_}
 use native.Mathlib.Omega.{arith}
 use borrow.Author.Tests.{eq-eqb, ne-eqb, eqb-true, eqb-false}
 use lib.Dec.{eqb}
@@ -17,19 +16,6 @@ use Rattle.host.specs.declared.Open.{Open}
 use Rattle.host.specs.Terms.{agrees, messageRefusal}
 use Rattle.host.proofs.Passing.{message-pass}
 use Rattle.host.specs.Transactions.{fills, refusing, closing, holding, decided, verdictOf}
-
--- one that fills its transaction, and one that does not, as code asks it
-pub fills-bare : (o : Open) (h : MessageHeader) → h .count ≡ 0 → eqb (o .received) 0 ≡ fills o h
-unfolding fills needed
-fills-bare o h e = rw (eq-eqb (h .count) 0 e) (go (o .received))
-  where
-    go : (n : ℕ) → eqb n 0 ≡ eqb 1 (suc n)
-    go zero = refl
-    go (suc n) = rw (ne-eqb (suc n) 0 (λ z. omega (arith, z)), ne-eqb 1 (suc (suc n)) (λ z. omega (arith, z)))
-
-pub fills-counted : (o : Open) (h : MessageHeader) → h .count ≢ 0 → eqb (h .count) (o .received + 1) ≡ fills o h
-unfolding fills needed
-fills-counted o h ne = rw (ne-eqb (h .count) 0 ne, add-one (o .received))
 
 -- the three verdicts
 module _ (lowest closed : ℕ) (o : Open) (h : MessageHeader) (len size d r : ℕ)

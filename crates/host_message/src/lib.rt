@@ -38,12 +38,12 @@ fn is_bare_with_data(h: MessageHeader, len: u16) -> bool
 fn terms_refusal(d: u32, closed: u32, o: Open, h: MessageHeader, len: u16) -> u8
     ensures { λ r. ⌜ r ≡ termsRefusal d closed o h len ⌝ }
 {
-    let is_closed = word32::is_marked(closed, d);
-    let is_same = has_same_terms(o, h);
-    let is_laden = is_bare_with_data(h, len);
     if 32 <= d {
         return refusal::TRANSACTION_OUTSIDE_WINDOW;
     }
+    let is_closed = word32::is_marked(closed, d);
+    let is_same = has_same_terms(o, h);
+    let is_laden = is_bare_with_data(h, len);
     if is_closed {
         return refusal::TRANSACTION_CLOSED;
     }
@@ -56,12 +56,16 @@ fn terms_refusal(d: u32, closed: u32, o: Open, h: MessageHeader, len: u16) -> u8
     0
 }
 
-// Refusals 11 and 12 against a memory of size bytes. The sums are taken in words wide enough for them.
-fn address_refusal(size: usize, h: MessageHeader, len: u16) -> u8
-    ensures { λ r. ⌜ r ≡ addressRefusal size h len ⌝ }
+// The refusal 7 to 10, where there is one, or else 11 or 12 against a memory of size bytes. The sums are taken in words
+// wide enough for them.
+fn or_address_refusal(terms: u8, size: usize, h: MessageHeader, len: u16) -> u8
+    ensures { λ r. ⌜ r ≡ firstOf terms (addressRefusal size h len) ⌝ }
 {
     let data_end = h.data_address as usize + len as usize;
     let completion_end = h.completion_address as usize + 4;
+    if terms != 0 {
+        return terms;
+    }
     if size < data_end {
         return refusal::DATA_OUTSIDE_MEMORY;
     }
@@ -71,21 +75,10 @@ fn address_refusal(size: usize, h: MessageHeader, len: u16) -> u8
     0
 }
 
-// The first of two refusals that is one.
-fn first_of(a: u8, b: u8) -> u8
-    ensures { λ r. ⌜ r ≡ firstOf a b ⌝ }
-{
-    if a == 0 {
-        return b;
-    }
-    a
-}
-
 // The first refusal of a message with len data bytes, 0 for none.
 pub fn first_refusal(d: u32, closed: u32, o: Open, h: MessageHeader, len: u16, size: usize) -> u8
     ensures { λ r. ⌜ r ≡ messageRefusal d closed o h len size ⌝ }
 {
     let terms = terms_refusal(d, closed, o, h, len);
-    let addresses = address_refusal(size, h, len);
-    first_of(terms, addresses)
+    or_address_refusal(terms, size, h, len)
 }

@@ -7,16 +7,24 @@ use host::Verdict;
 use seq::TransNo;
 use wire::MessageHeader;
 ghost use mathlib.Core.Path.{_≡_};
+ghost use Rattle.wire.specs.Format.{needed};
 ghost use Rattle.host.specs.Transactions.{fills, oneMore, leftIn, closing, verdictOf};
+
+// The messages that a transaction takes: one bare one for count 0.
+fn messages_of(count: u16) -> u16
+    ensures { λ r. ⌜ r ≡ needed count ⌝ }
+{
+    if count == 0 {
+        return 1;
+    }
+    count
+}
 
 // Whether the messages received equal the count, with this one: then it completes its transaction.
 pub fn completes(o: Open, h: MessageHeader) -> bool
     ensures { λ r. ⌜ r ≡ fills o h ⌝ }
 {
-    if h.count == 0 {
-        return o.received == 0;
-    }
-    h.count as u32 == o.received as u32 + 1
+    messages_of(h.count) as u32 == o.received as u32 + 1
 }
 
 // The entry of a transaction with one message more, which does not complete it.

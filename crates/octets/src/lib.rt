@@ -25,13 +25,15 @@ pub fn write(memory: &mut [u8], at: usize, src: &[u8]) -> bool
     true
 }
 
-// dst becomes src, which is as long. Eight bytes, which many messages have, come first: where the compiler knows how
-// many there are, it moves them at once.
+// dst becomes src, which is as long. Eight bytes and four, which many messages have, come first: where the compiler
+// knows how many there are, it moves them at once.
 fn copy(dst: &mut [u8], src: &[u8])
     requires { ⌜ length (now src) ≡ length (now dst) ⌝ }
     ensures { λ _. ⌜ now (dst .exit) ≡ now (src .entry) ⌝ }
 {
     if src.len() == 8 {
+        copy_short(dst, src);
+    } else if src.len() == 4 {
         copy_short(dst, src);
     } else if src.len() <= COPIED_MOST {
         copy_short(dst, src);

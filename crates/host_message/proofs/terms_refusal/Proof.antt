@@ -29,6 +29,9 @@ inside : (d closed : ℕ) (o : Open) (h : MessageHeader) (len : ℕ) (shut same 
 unfolding termsRefusal
 inside d closed o h len shut same laden shut-is same-is laden-is l = rw (lt-leb 32 d l, shut-is, same-is, laden-is)
 
+returns : tie.Need-returns
+returns c = outside _ _ _ _ _ (c .if1 .taken)
+
 is-marked-requires : tie.Need-is-marked-requires
 is-marked-requires c κs = search needs
 
@@ -38,49 +41,50 @@ has-same-terms-requires c κs = search needs
 is-bare-with-data-requires : tie.Need-is-bare-with-data-requires
 is-bare-with-data-requires c κs = search needs
 
-returns : tie.Need-returns
-returns c = outside _ _ _ _ _ (c .if1 .taken)
-
 returns-2 : tie.Need-returns-2
 returns-2 c =
-    let known = c .before .before in
-    let a = known .before .before .before .args in
+    let known = c .before in
+    let a = known .before .before .before .before .args in
     rw (c .if2 .taken) at
     (inside (a .d) (a .closed) (a .o) (a .h) (a .len) _ _ _ (known .before .before .is-marked .ensures)
-    (known .before .has-same-terms .ensures) (known .is-bare-with-data .ensures) (c .before .if1 .left))
+    (known .before .has-same-terms .ensures) (known .is-bare-with-data .ensures)
+    (known .before .before .before .if1 .left))
 
 returns-3 : tie.Need-returns-3
 returns-3 c =
-    let known = c .before .before .before in
-    let a = known .before .before .before .args in
+    let known = c .before .before in
+    let a = known .before .before .before .before .args in
     rw (c .before .if2 .left, c .if3 .taken) at
     (inside (a .d) (a .closed) (a .o) (a .h) (a .len) _ _ _ (known .before .before .is-marked .ensures)
-    (known .before .has-same-terms .ensures) (known .is-bare-with-data .ensures) (c .before .before .if1 .left))
+    (known .before .has-same-terms .ensures) (known .is-bare-with-data .ensures)
+    (known .before .before .before .if1 .left))
 
 returns-4 : tie.Need-returns-4
 returns-4 c =
-    let known = c .before .before .before .before in
-    let a = known .before .before .before .args in
+    let known = c .before .before .before in
+    let a = known .before .before .before .before .args in
     rw (c .before .before .if2 .left, c .before .if3 .left, c .if4 .taken) at
     (inside (a .d) (a .closed) (a .o) (a .h) (a .len) _ _ _ (known .before .before .is-marked .ensures)
-    (known .before .has-same-terms .ensures) (known .is-bare-with-data .ensures) (c .before .before .before .if1 .left))
+    (known .before .has-same-terms .ensures) (known .is-bare-with-data .ensures)
+    (known .before .before .before .if1 .left))
 
 returns-5 : tie.Need-returns-5
 returns-5 c =
-    let known = c .before .before .before .before in
-    let a = known .before .before .before .args in
+    let known = c .before .before .before in
+    let a = known .before .before .before .before .args in
     rw (c .before .before .if2 .left, c .before .if3 .left, c .if4 .left) at
     (inside (a .d) (a .closed) (a .o) (a .h) (a .len) _ _ _ (known .before .before .is-marked .ensures)
-    (known .before .has-same-terms .ensures) (known .is-bare-with-data .ensures) (c .before .before .before .if1 .left))
+    (known .before .has-same-terms .ensures) (known .is-bare-with-data .ensures)
+    (known .before .before .before .if1 .left))
 
 pub terms-refusal-spec : {M : Type 1} → statement M
 terms-refusal-spec =
     tie.close
     (tie.spec
+    returns
     is-marked-requires
     has-same-terms-requires
     is-bare-with-data-requires
-    returns
     returns-2
     returns-3
     returns-4

@@ -15,6 +15,9 @@ copy-short-requires c κs = search needs
 copy-short-requires-2 : tie.Need-copy-short-requires-2
 copy-short-requires-2 c κs = search needs
 
+copy-short-requires-3 : tie.Need-copy-short-requires-3
+copy-short-requires-3 c κs = search needs
+
 copy-requires : tie.Need-copy-requires
 copy-requires c κs = search needs
 
@@ -34,8 +37,14 @@ same-length-3 : tie.Need-same-length-3
 same-length-3 c = search needs
 
 returns-3 : tie.Need-returns-3
-returns-3 c =
-    let before = c .before .before .before .before .before .before .before .before in
+returns-3 c = search needs
+
+same-length-4 : tie.Need-same-length-4
+same-length-4 c = search needs
+
+returns-4 : tie.Need-returns-4
+returns-4 c =
+    let before = c .before .before .before .before .before .before .before .before .before in
     copy-over _ _ _ (before .pre) (c .before .before .copy .ensures .1)
 
 pub copy-spec : {M : Type 1} → statement M
@@ -44,10 +53,13 @@ copy-spec =
     (tie.spec
     copy-short-requires
     copy-short-requires-2
+    copy-short-requires-3
     copy-requires
     same-length
     returns
     same-length-2
     returns-2
     same-length-3
-    returns-3)
+    returns-3
+    same-length-4
+    returns-4)
