@@ -4,7 +4,6 @@
 use bitmap::word64;
 ghost use mathlib.Core.Path.{_≡_};
 ghost use Prim.Native.Nat.{min};
-ghost use Rattle.bitmap.specs.Marks.{withMark};
 ghost use Rattle.host_run.specs.Counting.{runBehind, runWithin, runAt};
 
 // An acknowledgement has one byte for the count.
