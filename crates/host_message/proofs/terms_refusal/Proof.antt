@@ -43,39 +43,35 @@ is-bare-with-data-requires c κs = search needs
 
 returns-2 : tie.Need-returns-2
 returns-2 c =
-    let known = c .before in
-    let a = known .before .before .before .before .args in
+    let all = c .before in
+    let a = all .before .before .before .before .args in
     rw (c .if2 .taken) at
-    (inside (a .d) (a .closed) (a .o) (a .h) (a .len) _ _ _ (known .before .before .is-marked .ensures)
-    (known .before .has-same-terms .ensures) (known .is-bare-with-data .ensures)
-    (known .before .before .before .if1 .left))
+    (inside (a .d) (a .closed) (a .o) (a .h) (a .len) _ _ _ (all .before .before .is-marked .ensures)
+    (all .before .has-same-terms .ensures) (all .is-bare-with-data .ensures) (all .before .before .before .if1 .left))
 
 returns-3 : tie.Need-returns-3
 returns-3 c =
-    let known = c .before .before in
-    let a = known .before .before .before .before .args in
+    let all = c .before .before in
+    let a = all .before .before .before .before .args in
     rw (c .before .if2 .left, c .if3 .taken) at
-    (inside (a .d) (a .closed) (a .o) (a .h) (a .len) _ _ _ (known .before .before .is-marked .ensures)
-    (known .before .has-same-terms .ensures) (known .is-bare-with-data .ensures)
-    (known .before .before .before .if1 .left))
+    (inside (a .d) (a .closed) (a .o) (a .h) (a .len) _ _ _ (all .before .before .is-marked .ensures)
+    (all .before .has-same-terms .ensures) (all .is-bare-with-data .ensures) (all .before .before .before .if1 .left))
 
 returns-4 : tie.Need-returns-4
 returns-4 c =
-    let known = c .before .before .before in
-    let a = known .before .before .before .before .args in
+    let all = c .before .before .before in
+    let a = all .before .before .before .before .args in
     rw (c .before .before .if2 .left, c .before .if3 .left, c .if4 .taken) at
-    (inside (a .d) (a .closed) (a .o) (a .h) (a .len) _ _ _ (known .before .before .is-marked .ensures)
-    (known .before .has-same-terms .ensures) (known .is-bare-with-data .ensures)
-    (known .before .before .before .if1 .left))
+    (inside (a .d) (a .closed) (a .o) (a .h) (a .len) _ _ _ (all .before .before .is-marked .ensures)
+    (all .before .has-same-terms .ensures) (all .is-bare-with-data .ensures) (all .before .before .before .if1 .left))
 
 returns-5 : tie.Need-returns-5
 returns-5 c =
-    let known = c .before .before .before in
-    let a = known .before .before .before .before .args in
+    let all = c .before .before .before in
+    let a = all .before .before .before .before .args in
     rw (c .before .before .if2 .left, c .before .if3 .left, c .if4 .left) at
-    (inside (a .d) (a .closed) (a .o) (a .h) (a .len) _ _ _ (known .before .before .is-marked .ensures)
-    (known .before .has-same-terms .ensures) (known .is-bare-with-data .ensures)
-    (known .before .before .before .if1 .left))
+    (inside (a .d) (a .closed) (a .o) (a .h) (a .len) _ _ _ (all .before .before .is-marked .ensures)
+    (all .before .has-same-terms .ensures) (all .is-bare-with-data .ensures) (all .before .before .before .if1 .left))
 
 pub terms-refusal-spec : {M : Type 1} → statement M
 terms-refusal-spec =
