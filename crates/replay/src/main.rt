@@ -5,7 +5,7 @@
 // it is the last line that tells a whole replay.
 use libc::STDIN_FILENO;
 use libc::STDOUT_FILENO;
-use replay_feed::Reply;
+use replay_text::Reply;
 ghost use mathlib.Core.Path.{_≡_};
 ghost use Prim.Native.Nat.{_≤_};
 ghost use lib.ListN.{length};
@@ -160,7 +160,7 @@ fn read_all(
         if room.failed {
             return room;
         }
-        if replay_feed::is_full(place) {
+        if replay_place::is_full(place) {
             return room;
         }
     }

@@ -3,103 +3,18 @@
 // replay_text/specs/Feeding.antt on the state that is lent (specs/State.antt), of which
 // replay_text/proofs/Fragments.antt shows that any way to cut a text gives the answers of the whole text.
 use hex_line::Line;
-pub use host::Answer;
-use refusal::REPLAY_CLOSED;
-use replay_line::Totals;
-pub use replay_text::Reply;
+use host::Answer;
+use host::Refusal;
+use replay_place::Closed;
+use replay_place::Fed;
+use replay_text::Reply;
 ghost use mathlib.Core.Path.{_≡_};
-ghost use mathlib.Core.Bool.{cond};
-ghost use Prim.Native.Nat.{_<_};
-ghost use lib.Dec.{leb};
-ghost use lib.ListN.{getD, replicate};
-ghost use Rattle.replay_text.specs.Feeding.{atStart, lineAnswer, lineEnded, feed as feedOf, close as closeOf};
-ghost use Rattle.replay_feed.specs.State.{
-  isSet,
-  lineOf,
-  totalsIn,
-  placeWords,
-  replayingOf,
-  readingOf,
-  fedOf,
-  closedOf,
-  OpensReplay,
-};
-
-// The host's own ID.
-pub const OWN: u16 = 1;
-
-// The ID of the card that it receives from.
-pub const PEER: u16 = 2;
-
-// Lines that are answered.
-pub const LINES_MOST: u64 = 1000000;
-
-// Where the count of answered lines stands in the words of the place, and where whether it is closed.
-const LINES: usize = 3;
-
-const CLOSED: usize = 4;
-
-// What feeding answers: what it says of a line, and how many bytes were taken.
-pub struct Fed {
-    pub reply: Reply,
-    pub taken: usize,
-}
-
-// What closing answers: what it says of a last line, and the totals.
-pub struct Closed {
-    pub reply: Reply,
-    pub totals: Totals,
-}
-
-// A yes as 1 and a no as 0.
-fn bit(b: bool) -> u64
-    ensures { λ r. ⌜ r ≡ cond b 1 0 ⌝ }
-{
-    if b {
-        return 1;
-    }
-    0
-}
-
-// The line being read.
-fn line_in(place: &[u64; 9]) -> Line
-    ensures { λ r. ⌜ r ≡ lineOf (now (place .entry)) ⌝ }
-{
-    Line {
-        len: place[5] as usize,
-        half: (place[6] % 16) as u8,
-        odd: place[7] != 0,
-        bad: place[8] != 0,
-    }
-}
-
-// The totals so far.
-fn totals_in(place: &[u64; 9]) -> Totals
-    ensures { λ r. ⌜ r ≡ totalsIn (now (place .entry)) ⌝ }
-{
-    Totals {
-        messages: place[0],
-        bytes: place[1],
-        completed: place[2],
-    }
-}
-
-// The place that a replay has reached, as words.
-fn place_of(totals: Totals, lines: u64, closed: u64, line: Line) -> [u64; 9]
-    ensures { λ r. ⌜ r ≡ placeWords totals lines closed line ⌝ }
-{
-    [
-        totals.messages,
-        totals.bytes,
-        totals.completed,
-        lines,
-        closed,
-        line.len as u64,
-        line.half as u64,
-        bit(line.odd),
-        bit(line.bad),
-    ]
-}
+ghost use lib.ListN.{replicate};
+ghost use Rattle.host_words.specs.Words.{pairOf};
+ghost use Rattle.replay_line.specs.Report.{answeredLine};
+ghost use Rattle.replay_text.specs.Feeding.{feed as feedOf, close as closeOf};
+ghost use Rattle.replay_place.specs.Place.{fedOf, closedOf, counted, Answers};
+ghost use Rattle.replay_feed.specs.State.{replayingOf, OpensReplay};
 
 // Opens a replay: its host has ID 1 and the peer 2, and the memory is all zero.
 pub fn open(place: &mut [u64; 9], words: &mut [u64; 67], memory: &mut [u8; 4096])
@@ -108,41 +23,40 @@ pub fn open(place: &mut [u64; 9], words: &mut [u64; 67], memory: &mut [u8; 4096]
 {
     *place = [0u64; 9];
     *memory = [0u8; 4096];
-    host_open::open_in_place(words, OWN, PEER);
+    host_open::open_in_place(words, replay_place::OWN, replay_place::PEER);
 }
 
-// Answers the line that has ended, its bytes at the start of frame. The next line has no character yet.
+// Answers a line that has ended, its bytes at the start of frame; the host is in words.
+fn answer_line(words: &mut [u64; 67], line: Line, frame: &[u8], memory: &mut [u8]) -> Answer
+    ensures { λ r. ⌜ r
+        ≡ answeredLine (pairOf (now (words .entry))) line (now (frame .entry)) (now (memory .entry)) .answer ⌝ }
+    ensures { λ _. ⌜ pairOf (now (words .exit))
+        ≡ answeredLine (pairOf (now (words .entry))) line (now (frame .entry)) (now (memory .entry)) .pair ⌝ }
+    ensures { λ _. ⌜ now (memory .exit)
+        ≡ answeredLine (pairOf (now (words .entry))) line (now (frame .entry)) (now (memory .entry)) .memory ⌝ }
+{
+    let number = replay_line::line_refusal(line);
+    if number != 0 {
+        return Answer::Refused(Refusal { number, place: 0 });
+    }
+    host_receive::receive_in_place(words, octets::front(frame, line.len), memory)
+}
+
+// Answers the line being read, which has ended, and counts the answer.
 fn end_line(
     place: &mut [u64; 9],
     words: &mut [u64; 67],
-    line: Line,
     frame: &[u8],
     memory: &mut [u8; 4096],
 ) -> Answer
-    requires { ⌜ (getD (now place) 3 0 < 1000000) × (getD (now place) 4 0 ≡ 0) ⌝ }
-    ensures { λ r. ⌜ r
-        ≡ lineAnswer
-        (readingOf (now (place .entry)) (now (words .entry)) (now (frame .entry)) (now (memory .entry)) line) ⌝ }
-    ensures { λ _. ⌜ replayingOf (now (place .exit)) (now (words .exit)) (now (frame .entry)) (now (memory .exit))
-        ≡ lineEnded
-        (readingOf (now (place .entry)) (now (words .entry)) (now (frame .entry)) (now (memory .entry)) line) ⌝ }
+    ensures { λ r. ⌜ Answers (now (place .entry)) (pairOf (now (words .entry))) (now (frame .entry))
+        (now (memory .entry)) r (pairOf (now (words .exit))) (now (memory .exit)) ⌝ }
+    ensures { λ r. ⌜ now (place .exit) ≡ counted (now (place .entry)) r ⌝ }
 {
-    let answer = replay_line::answer_line(words, line, frame, memory);
-    let totals = totals_in(place).with(answer);
-    let lines = place[LINES] + 1;
-    *place = place_of(totals, lines, 0, Line::start());
+    let line = replay_place::line_in(place);
+    let answer = answer_line(words, line, frame, memory);
+    replay_place::count_answer(place, answer);
     answer
-}
-
-// Notes the line as far as it is read.
-fn keep_line(place: &mut [u64; 9], line: Line)
-    requires { ⌜ getD (now place) 4 0 ≡ 0 ⌝ }
-    ensures { λ _. ⌜ now (place .exit)
-        ≡ placeWords (totalsIn (now (place .entry))) (getD (now (place .entry)) 3 0) 0 line ⌝ }
-{
-    let totals = totals_in(place);
-    let lines = place[LINES];
-    *place = place_of(totals, lines, 0, line);
 }
 
 // Feeds a fragment. Where it has a newline, the line up to there is answered, and what follows is for the next call;
@@ -164,52 +78,17 @@ pub fn feed(
         (replayingOf (now (place .entry)) (now (words .entry)) (now (frame .entry)) (now (memory .entry)))
         (now (fragment .entry)) .state ⌝ }
 {
-    if place[CLOSED] != 0 {
-        return Fed {
-            reply: Reply::Refused(REPLAY_CLOSED),
-            taken: 0,
-        };
-    }
-    if LINES_MOST <= place[LINES] {
-        return Fed {
-            reply: Reply::Nothing,
-            taken: fragment.len(),
-        };
-    }
-    let got = hex_feed::take_in(line_in(place), frame, fragment, 0);
-    let line = got.line;
+    let got = replay_place::take_in(place, frame, fragment);
+    let taken = got.taken;
     if got.ended {
-        let answer = end_line(place, words, line, frame, memory);
+        let answer = end_line(place, words, frame, memory);
         return Fed {
             reply: Reply::Answered(answer),
-            taken: got.at,
+            taken,
         };
     }
-    keep_line(place, line);
-    Fed {
-        reply: Reply::Nothing,
-        taken: got.at,
-    }
-}
-
-// Whether LINES_MOST lines are answered, so that nothing more is looked at.
-pub fn is_full(place: &[u64; 9]) -> bool
-    ensures { λ r. ⌜ r ≡ leb 1000000 (getD (now (place .entry)) 3 0) ⌝ }
-{
-    LINES_MOST <= place[LINES]
-}
-
-// Marks the replay as closed, and answers the totals.
-fn shut(place: &mut [u64; 9]) -> Totals
-    ensures { λ r. ⌜ r ≡ totalsIn (now (place .entry)) ⌝ }
-    ensures { λ _. ⌜ now (place .exit)
-        ≡ placeWords (totalsIn (now (place .entry))) (getD (now (place .entry)) 3 0) 1 (lineOf (now (place .entry))) ⌝ }
-{
-    let totals = totals_in(place);
-    let lines = place[LINES];
-    let line = line_in(place);
-    *place = place_of(totals, lines, 1, line);
-    totals
+    let reply = got.reply;
+    Fed { reply, taken }
 }
 
 // Answers a last line, if it has a character and LINES_MOST are not answered yet, and the totals. Once closed, it is
@@ -227,33 +106,15 @@ pub fn close(
         ≡ closeOf
         (replayingOf (now (place .entry)) (now (words .entry)) (now (frame .entry)) (now (memory .entry))) .state ⌝ }
 {
-    if place[CLOSED] != 0 {
-        return Closed {
-            reply: Reply::Refused(REPLAY_CLOSED),
-            totals: Totals {
-                messages: 0,
-                bytes: 0,
-                completed: 0,
-            },
-        };
-    }
-    if LINES_MOST <= place[LINES] {
-        return Closed {
-            reply: Reply::Nothing,
-            totals: shut(place),
-        };
-    }
-    let line = line_in(place);
     let held: &[u8] = frame;
-    if line.is_empty() {
+    if replay_place::has_last(place) {
+        let answer = end_line(place, words, held, memory);
+        let end = replay_place::close(place);
+        let totals = end.totals;
         return Closed {
-            reply: Reply::Nothing,
-            totals: shut(place),
+            reply: Reply::Answered(answer),
+            totals,
         };
     }
-    let answer = end_line(place, words, line, held, memory);
-    Closed {
-        reply: Reply::Answered(answer),
-        totals: shut(place),
-    }
+    replay_place::close(place)
 }

@@ -2,7 +2,7 @@
 use Prim.Native.Nat.{ℕ, _+_, _%_, _^_}
 use mathlib.Core.Bool.{cond}
 use mathlib.Core.List.{List, [], _∷_}
-use lib.Dec.{ltb}
+use lib.Dec.{ltb, eqb}
 use lib.ListN.{take}
 use Rattle.hex_line.specs.declared.Line.{Line}
 use Rattle.hex_line.specs.Taking.{refusedLine}
@@ -12,13 +12,15 @@ use Rattle.host.specs.declared.Answer.the-variants.{Accepted, Again, NoMessages
 use Rattle.host.specs.Host.{Received, unchanged, refused, receiveOf}
 use Rattle.replay_line.specs.declared.Totals.{Totals}
 
--- A line that is no frame gets 14, before all others, and one that spells more than 9,000 bytes gets 2; any other is
--- received as the bytes that it spells, which stand at the start of the frame buffer.
+-- A line that is no frame gets 14, before all others, and one that spells more than 9,000 bytes gets 2.
+unfoldable pub lineRefusal : Line → ℕ
+lineRefusal line = cond (refusedLine line) 14 (cond (ltb 9000 (line .len)) 2 0)
+
+-- Any other line is received as the bytes that it spells, which stand at the start of the frame buffer.
 unfoldable pub answeredLine : Pair → Line → List ℕ → List ℕ → Received
 answeredLine p line frame memory =
-    cond (refusedLine line) (unchanged p memory (refused 14 0))
-    (cond (ltb 9000 (line .len)) (unchanged p memory (refused 2 0))
-    (receiveOf p (take (line .len) frame) memory))
+    cond (eqb (lineRefusal line) 0) (receiveOf p (take (line .len) frame) memory)
+    (unchanged p memory (refused (lineRefusal line) 0))
 
 -- The letter and the numbers of an answer's line: A, G, N or R.
 abbrev pub letterOf : Answer → ℕ

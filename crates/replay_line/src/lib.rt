@@ -1,13 +1,11 @@
-// What the replay says of one line: the host's answer to the frame that it spells, the answer's text, and the totals.
-// Assumes nothing. It promises what specs/Report.antt says.
+// What the replay says of one line, whichever host answers it: the refusal of a line that is no frame, an answer's
+// text, and the totals. Assumes nothing. It promises what specs/Report.antt says.
 use hex_line::Line;
 use host::Answer;
-use host::Refusal;
 ghost use mathlib.Core.Path.{_≡_};
 ghost use mathlib.Core.List.{[], _∷_};
 ghost use Rattle.text_answer.specs.AnswerLine.{lineEnd, withLine};
-ghost use Rattle.host_words.specs.Words.{pairOf};
-ghost use Rattle.replay_line.specs.Report.{answeredLine, letterOf, numbersOf, totalled};
+ghost use Rattle.replay_line.specs.Report.{lineRefusal, letterOf, numbersOf, totalled};
 
 // Bytes that a frame can have. A line that spells more is refused whatever they are, so that no more have to be held.
 pub const FRAME_MOST: usize = 9000;
@@ -19,29 +17,18 @@ pub struct Totals {
     pub completed: u64,
 }
 
-// Answers a line that has ended, its bytes at the start of frame, which needs no room for more than FRAME_MOST; the
-// host is in words.
-pub fn answer_line(words: &mut [u64; 67], line: Line, frame: &[u8], memory: &mut [u8]) -> Answer
-    ensures { λ r. ⌜ r
-        ≡ answeredLine (pairOf (now (words .entry))) line (now (frame .entry)) (now (memory .entry)) .answer ⌝ }
-    ensures { λ _. ⌜ pairOf (now (words .exit))
-        ≡ answeredLine (pairOf (now (words .entry))) line (now (frame .entry)) (now (memory .entry)) .pair ⌝ }
-    ensures { λ _. ⌜ now (memory .exit)
-        ≡ answeredLine (pairOf (now (words .entry))) line (now (frame .entry)) (now (memory .entry)) .memory ⌝ }
+// The refusal of a line that has ended: 14 where it spells no bytes, then 2 where it spells more than FRAME_MOST; 0 for
+// none, and then a host is to be asked.
+pub fn line_refusal(line: Line) -> u8
+    ensures { λ r. ⌜ r ≡ lineRefusal line ⌝ }
 {
     if line.is_refused() {
-        return Answer::Refused(Refusal {
-            number: refusal::BAD_LINE,
-            place: 0,
-        });
+        return refusal::BAD_LINE;
     }
     if FRAME_MOST < line.len {
-        return Answer::Refused(Refusal {
-            number: refusal::FRAME_TOO_LONG,
-            place: 0,
-        });
+        return refusal::FRAME_TOO_LONG;
     }
-    host_receive::receive_in_place(words, octets::front(frame, line.len), memory)
+    0
 }
 
 // Writes an answer's line into out from at on, and answers the index behind it; where it does not fit, nothing is

@@ -3,7 +3,7 @@
 use mathlib.Core.Path.{ap, _∙_}
 use Rattle.replay_text.specs.declared.Reply.{Reply}
 use Rattle.replay_text.specs.Feeding.{close}
-use Rattle.replay_feed.specs.declared.Closed.{Closed}
+use Rattle.replay_place.specs.declared.Closed.{Closed}
 use Rattle.replay_feed.specs.State.{replayingOf}
 use Rattle.capi_replay.specs.Replies.{replyNumber, replyWords}
 use Rattle.capi_replay.proofs.Totals.{totals-stay, totals-told}

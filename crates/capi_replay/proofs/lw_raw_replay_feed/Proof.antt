@@ -2,7 +2,7 @@
 -- Assumes nothing.
 use mathlib.Core.Path.{ap, _∙_}
 use Rattle.replay_text.specs.declared.Reply.{Reply}
-use Rattle.replay_feed.specs.declared.Fed.{Fed}
+use Rattle.replay_place.specs.declared.Fed.{Fed}
 use Rattle.capi_replay.specs.Replies.{replyNumber, replyWords}
 use borrow.Author.Needs.{needs}
 use Rattle.capi_replay.proofs.lw_raw_replay_feed.Statement.{statement}

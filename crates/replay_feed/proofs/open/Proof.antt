@@ -4,7 +4,7 @@ use mathlib.Core.Path.{_≡_, refl}
 use native.Mathlib.Omega.{arith}
 use lib.ListN.{length}
 use Rattle.host.specs.Host.{openedOf}
-use Rattle.replay_feed.proofs.Steps.{opens}
+use Rattle.replay_place.proofs.Steps.{opens}
 use borrow.Author.Needs.{needs}
 use Rattle.replay_feed.proofs.open.Statement.{statement}
 use Rattle.replay_feed.proofs.open.Tie as tie

@@ -1,11 +1,11 @@
--- `replay_feed::place_of`: the words one by one.
+-- `replay_place::place_of`: the words one by one.
 -- Assumes nothing.
 use borrow.Author.Needs.{needs}
-use Rattle.replay_feed.proofs.place_of.Statement.{statement}
-use Rattle.replay_feed.proofs.place_of.Tie as tie
-use Rattle.replay_feed.proofs.place_of.Reads as reads
-use Rattle.replay_feed.proofs.place_of.Lts as lts
-use Rattle.replay_feed.proofs.bit.Reads as bit-reads
+use Rattle.replay_place.proofs.place_of.Statement.{statement}
+use Rattle.replay_place.proofs.place_of.Tie as tie
+use Rattle.replay_place.proofs.place_of.Reads as reads
+use Rattle.replay_place.proofs.place_of.Lts as lts
+use Rattle.replay_place.proofs.bit.Reads as bit-reads
 
 cast-t6 : tie.Need-cast-t6
 cast-t6 c = search needs
