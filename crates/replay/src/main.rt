@@ -1,77 +1,9 @@
 // Replays a capture: reads lines of hexadecimal, one frame a line, from standard input, and writes the answers of a
 // charging host of own ID 1 and peer 2, and last the totals. It feeds what it reads to the crate replay_feed, piece
-// by piece, and writes the text of what that answers; what is assumed is that read and write do what their pages say.
+// by piece, and writes the text of what that answers; reading and writing are the crate replay_output's.
 // Where one of them fails, that is said on standard error and no totals are written: a program has no exit status, so
 // it is the last line that tells a whole replay.
-use libc::STDIN_FILENO;
-use libc::STDOUT_FILENO;
-use replay_text::Reply;
-ghost use mathlib.Core.Path.{_≡_};
-ghost use Prim.Native.Nat.{_≤_};
-ghost use lib.ListN.{length};
-
-// How much of the output buffer is used, and whether reading or writing failed, or an answer was lost.
-struct Room {
-    pub used: usize,
-    pub failed: bool,
-}
-
-// How many bytes were read, 0 at the input's end, and whether reading failed.
-struct Got {
-    pub count: usize,
-    pub failed: bool,
-}
-
-// Writes the used part of the output buffer, and answers whether it could.
-fn write_out(out: &[u8], used: usize) -> bool {
-    if used <= out.len() {
-        if io::write_all(STDOUT_FILENO, &out[..used]) {
-            return true;
-        }
-        os::fail(b"write");
-    }
-    false
-}
-
-// The output buffer emptied where the next line might not fit. After a failure nothing more is written, so that the
-// output has no gap.
-fn make_room(out: &[u8], used: usize, failed: bool) -> Room {
-    if failed {
-        return Room { used: 0, failed };
-    }
-    if out.len() < used {
-        return Room {
-            used: 0,
-            failed: true,
-        };
-    }
-    if text_answer::LINE_MOST <= out.len() - used {
-        return Room { used, failed };
-    }
-    if write_out(out, used) {
-        return Room { used: 0, failed };
-    }
-    Room {
-        used: 0,
-        failed: true,
-    }
-}
-
-// Puts the answer of a line, if there is one, into the output buffer.
-fn put_reply(out: &mut [u8], room: Room, reply: Reply) -> Room {
-    match reply {
-        Reply::Answered(answer) => {
-            let made = make_room(out, room.used, room.failed);
-            let used = replay_line::put_answer(out, made.used, answer);
-            Room {
-                used,
-                failed: made.failed,
-            }
-        }
-        Reply::Nothing => room,
-        Reply::Refused(_) => room,
-    }
-}
+use replay_output::Room;
 
 // Feeds a piece until it is taken whole, and puts the answer of each line that ends in it into the output buffer. No
 // call on an open replay takes nothing of what is left; the test is there since a loop that is proved has to end.
@@ -96,39 +28,11 @@ fn take_piece(
         }
         at += fed.taken;
         let reply = fed.reply;
-        let next = put_reply(out, room, reply);
+        let made = replay_output::make_room(out, room.used, room.failed);
+        let next = replay_output::put_reply(out, made, reply);
         room = next;
     }
     room
-}
-
-// Reads once.
-fn read_some(piece: &mut [u8]) -> Got
-    ensures { λ r. ⌜ r .count ≤ length (now (piece .entry)) ⌝ }
-{
-    let got = libc::read(STDIN_FILENO, piece);
-    if got < 0 {
-        os::fail(b"read");
-        return Got {
-            count: 0,
-            failed: true,
-        };
-    }
-    Got {
-        count: io::count(got, piece),
-        failed: false,
-    }
-}
-
-// Where the program stands once reading has failed: the answers so far are written, and it goes no further.
-fn stop(room: Room, out: &[u8]) -> Room {
-    if !room.failed {
-        write_out(out, room.used);
-    }
-    Room {
-        used: 0,
-        failed: true,
-    }
 }
 
 // Takes in the input piece by piece, until it ends or enough lines are answered. A loop that is proved has to end, and
@@ -148,9 +52,9 @@ fn read_all(
     let mut turns = u64::MAX;
     while turns > 0 {
         turns -= 1;
-        let got = read_some(piece);
+        let got = replay_output::read_some(piece);
         if got.failed {
-            return stop(room, out);
+            return replay_output::stop(room, out);
         }
         if got.count == 0 {
             return room;
@@ -177,16 +81,16 @@ fn finish(
     out: &mut [u8],
 ) {
     let closed = replay_feed::close(place, words, frame, memory);
-    let t = closed.totals;
-    let numbers = [t.messages, t.bytes, t.completed];
+    let totals = closed.totals;
     let reply = closed.reply;
-    let last = put_reply(out, at_end, reply);
-    let room = make_room(out, last.used, last.failed);
+    let made = replay_output::make_room(out, at_end.used, at_end.failed);
+    let last = replay_output::put_reply(out, made, reply);
+    let room = replay_output::make_room(out, last.used, last.failed);
     if room.failed {
         return;
     }
-    let used = text_answer::put_line(out, room.used, b'T', &numbers);
-    write_out(out, used);
+    let used = replay_output::put_totals(out, room.used, totals);
+    replay_output::write_out(out, used);
 }
 
 fn main() {

@@ -9,8 +9,9 @@ use Rattle.replay.proofs.take_piece.Statement.{statement}
 use Rattle.replay.proofs.take_piece.Tie as tie
 use Rattle.replay.proofs.take_piece.Reads as reads
 use Rattle.replay.proofs.take_piece.Lts as lts
-use Rattle.replay.proofs.put_reply.Reads as put-reply-reads
 use Rattle.replay_feed.proofs.feed.Reads as feed-reads
+use Rattle.replay_output.proofs.make_room.Reads as make-room-reads
+use Rattle.replay_output.proofs.put_reply.Reads as put-reply-reads
 
 abbrev Inv-loop : tie.InvT-loop
 Inv-loop piece place₀ words₀ frame₀ memory₀ out₀ room₀ at₀ place words frame memory out room at =
@@ -52,15 +53,18 @@ returns-2 c = search needs
 add-at : tie.Need-add-at Inv-loop μ-loop
 add-at c = search needs
 
+make-room-requires : tie.Need-make-room-requires Inv-loop μ-loop
+make-room-requires c κs = search needs
+
 put-reply-requires : tie.Need-put-reply-requires Inv-loop μ-loop
 put-reply-requires c κs = search needs
 
 loop-less : tie.Need-loop-less Inv-loop μ-loop
 loop-less c =
-    let c5 = c .before .before .before .before .before in
-    let c7 = c5 .before .before in
-    let c15 = c7 .before .before .before .before .before .before .before .before in
-    omega (arith, c5 .if2 .left, c7 .if1 .left, c15 .loop-test .taken)
+    let inside = c .before .before .before .before .before .before .before in
+    let moved = inside .before .before in
+    let begun = moved .before .before .before .before .before .before .before .before in
+    omega (arith, inside .if2 .left, moved .if1 .left, begun .loop-test .taken)
 
 loop-again : tie.Need-loop-again Inv-loop μ-loop
 loop-again c = search needs
@@ -88,6 +92,7 @@ take-piece-spec =
     same-length-2
     returns-2
     add-at
+    make-room-requires
     put-reply-requires
     loop-less
     loop-again

@@ -1,0 +1,125 @@
+// Input and output of the programs that replay: reading a piece, the buffer in which answers wait to be written, and
+// writing it. What is assumed is that read and write do what their pages say. What is read, and whether writing
+// succeeds, no rule says: there a promise only limits the result. All else it promises as specs/Output.antt says.
+use libc::STDIN_FILENO;
+use libc::STDOUT_FILENO;
+use replay_line::Totals;
+use replay_text::Reply;
+ghost use mathlib.Core.Path.{_≡_};
+ghost use mathlib.Core.List.{[], _∷_};
+ghost use Prim.Native.Nat.{_≤_};
+ghost use lib.ListN.{length};
+ghost use Rattle.text_answer.specs.AnswerLine.{lineEnd, withLine};
+ghost use Rattle.replay_output.specs.Output.{stopped, roomAfter, outAfter, Writes, Makes};
+
+// How much of the output buffer is used, and whether reading or writing failed, or an answer was lost.
+pub struct Room {
+    pub used: usize,
+    pub failed: bool,
+}
+
+// How many bytes were read, 0 at the input's end, and whether reading failed.
+pub struct Got {
+    pub count: usize,
+    pub failed: bool,
+}
+
+// Reads once. What comes, and whether it fails, is the operating system's to say.
+pub fn read_some(piece: &mut [u8]) -> Got
+    ensures { λ r. ⌜ r .count ≤ length (now (piece .entry)) ⌝ }
+    ensures { λ _. ⌜ length (now (piece .exit)) ≡ length (now (piece .entry)) ⌝ }
+{
+    let got = libc::read(STDIN_FILENO, piece);
+    if got < 0 {
+        os::fail(b"read");
+        return Got {
+            count: 0,
+            failed: true,
+        };
+    }
+    Got {
+        count: io::count(got, piece),
+        failed: false,
+    }
+}
+
+// Writes the used part of the output buffer, and answers whether it could, which is the operating system's to say.
+pub fn write_out(out: &[u8], used: usize) -> bool
+    ensures { λ r. ⌜ Writes (now (out .entry)) used r ⌝ }
+{
+    if used <= out.len() {
+        if io::write_all(STDOUT_FILENO, &out[..used]) {
+            return true;
+        }
+        os::fail(b"write");
+    }
+    false
+}
+
+// The output buffer emptied where the next line might not fit. After a failure nothing more is written, so that the
+// output has no gap. Whether writing fails is the operating system's to say.
+pub fn make_room(out: &[u8], used: usize, failed: bool) -> Room
+    ensures { λ r. ⌜ Makes (now (out .entry)) used failed r ⌝ }
+{
+    if failed {
+        return Room { used: 0, failed };
+    }
+    if out.len() < used {
+        return Room {
+            used: 0,
+            failed: true,
+        };
+    }
+    if text_answer::LINE_MOST <= out.len() - used {
+        return Room { used, failed };
+    }
+    if write_out(out, used) {
+        return Room { used: 0, failed };
+    }
+    Room {
+        used: 0,
+        failed: true,
+    }
+}
+
+// Puts the answer of a line, if there is one, into the output buffer.
+pub fn put_reply(out: &mut [u8], room: Room, reply: Reply) -> Room
+    ensures { λ r. ⌜ r ≡ roomAfter (now (out .entry)) room reply ⌝ }
+    ensures { λ _. ⌜ now (out .exit) ≡ outAfter (now (out .entry)) room reply ⌝ }
+{
+    match reply {
+        Reply::Answered(answer) => {
+            let used = replay_line::put_answer(out, room.used, answer);
+            Room {
+                used,
+                failed: room.failed,
+            }
+        }
+        Reply::Nothing => room,
+        Reply::Refused(_) => room,
+    }
+}
+
+// Puts the line of the totals into the output buffer from at on, and answers the index behind it.
+pub fn put_totals(out: &mut [u8], at: usize, totals: Totals) -> usize
+    ensures { λ r. ⌜ r
+        ≡ lineEnd (now (out .entry)) at 84 (totals .messages ∷ totals .bytes ∷ totals .completed ∷ []) ⌝ }
+    ensures { λ _. ⌜ now (out .exit)
+        ≡ withLine (now (out .entry)) at 84 (totals .messages ∷ totals .bytes ∷ totals .completed ∷ []) ⌝ }
+{
+    let numbers = [totals.messages, totals.bytes, totals.completed];
+    text_answer::put_line(out, at, b'T', &numbers)
+}
+
+// Where the program stands once reading has failed: the answers so far are written, and it goes no further.
+pub fn stop(room: Room, out: &[u8]) -> Room
+    ensures { λ r. ⌜ r ≡ stopped ⌝ }
+{
+    if !room.failed {
+        write_out(out, room.used);
+    }
+    Room {
+        used: 0,
+        failed: true,
+    }
+}
