@@ -88,10 +88,12 @@ static struct message bare(uint32_t transaction)
 
 /* ---- The host ---------------------------------------------------------- */
 
-/* A host with its memory. */
+/* A host with its memory, and a plain host with its own. */
 struct receiver {
     lw_host host;
     uint8_t memory[MEMORY];
+    lw_plain plain;
+    uint8_t plain_memory[MEMORY];
 };
 
 static struct receiver fresh_receiver(void)
@@ -100,6 +102,7 @@ static struct receiver fresh_receiver(void)
 
     memset(&receiver, 0, sizeof receiver);
     check("opening a host", 0, lw_host_open(&receiver.host, OWN, PEER), LW_NOT_REFUSED);
+    check("opening a plain host", 0, lw_plain_open(&receiver.plain, OWN, PEER), LW_NOT_REFUSED);
     return receiver;
 }
 
@@ -113,6 +116,25 @@ static void check_answer(unsigned long at, const lw_answer *got, lw_answer want)
     check("refusal", at, got->refusal, want.refusal);
     check("place", at, got->place, want.place);
     check("run", at, got->run, want.run);
+}
+
+/* The plain host is to answer the same and to leave the same memory. */
+static void check_plain(unsigned long at, struct receiver *receiver, const uint8_t *frame,
+                        size_t length, lw_answer want)
+{
+    const lw_plain before = receiver->plain;
+    lw_answer answer;
+
+    memset(&answer, 0xff, sizeof answer);
+    check("returned kind, plain", at,
+          lw_plain_receive(&receiver->plain, frame, length, receiver->plain_memory,
+                           sizeof receiver->plain_memory, &answer),
+          want.kind);
+    check_answer(at, &answer, want);
+    check_bytes("memory, plain", at, receiver->memory, receiver->plain_memory,
+                sizeof receiver->memory);
+    if (want.kind != LW_ACCEPTED)
+        check_bytes("plain host as it was", at, &before, &receiver->plain, sizeof before);
 }
 
 /* Receives a frame and checks the answer, of which what is not given is 0. Unless it
@@ -132,6 +154,7 @@ static void check_receive(unsigned long at, struct receiver *receiver, const uin
         check_bytes("host as it was", at, &before.host, &receiver->host, sizeof before.host);
         check_bytes("memory as it was", at, before.memory, receiver->memory, sizeof before.memory);
     }
+    check_plain(at, receiver, frame, length, want);
 }
 
 /* With a run of one. */
@@ -224,6 +247,7 @@ static void check_host_opening(void)
 {
     static const uint16_t ids[] = {0, 1, 2, 65535};
     lw_description description;
+    lw_plain plain;
     lw_host host;
 
     for (size_t own = 0; own < 4; own++) {
@@ -232,6 +256,12 @@ static void check_host_opening(void)
             memset(&host, 0xff, sizeof host);
             check("opening", own * 4 + peer, lw_host_open(&host, ids[own], ids[peer]),
                   zero ? LW_REFUSED_ID_ZERO : LW_NOT_REFUSED);
+            memset(&plain, 0xff, sizeof plain);
+            check("opening a plain host", own * 4 + peer, lw_plain_open(&plain, ids[own], ids[peer]),
+                  zero ? LW_REFUSED_ID_ZERO : LW_NOT_REFUSED);
+            check("own, plain", own, plain.own, zero ? 0 : ids[own]);
+            check("peer, plain", peer, plain.peer, zero ? 0 : ids[peer]);
+            check("next and lowest, plain", 0, plain.next + plain.lowest, 0);
             lw_host_describe(&host, &description);
             check("own", own, description.own, zero ? 0 : ids[own]);
             check("peer", peer, description.peer, zero ? 0 : ids[peer]);
@@ -342,6 +372,7 @@ static void check_all_marks(void)
     struct receiver receiver = fresh_receiver();
 
     receiver.host.words[1] = UINT64_MAX;
+    memset(receiver.plain.accepted, 0xff, sizeof receiver.plain.accepted);
     for (uint32_t number = 0; number < 64; number++)
         check_frame(number, &receiver, number, &message, 1, with_run(again(number), 64 - number));
     check_frame(64, &receiver, 64, &message, 1, refused(LW_REFUSED_FRAME_AHEAD, 0));

@@ -135,6 +135,7 @@ static inline const char *lw_refusal_name(uint32_t number)
 
 #define LW_HOST_WORDS 67
 #define LW_CARD_WORDS 85
+#define LW_PLAIN_WORDS 228
 #define LW_ANSWER_WORDS 8
 #define LW_REPLAY_WORDS 9     /* of a replay\'s place */
 #define LW_REPLAY_MEMORY 4096 /* bytes of a replay\'s memory */
@@ -149,6 +150,18 @@ typedef struct lw_host {
 typedef struct lw_card {
     uint64_t words[LW_CARD_WORDS];
 } lw_card;
+
+/* The plain host's end of a pair, for tests and audits: it answers as lw_host does,
+ * and its state may be looked into. Open it before anything else. */
+typedef struct lw_plain {
+    uint64_t own, peer;
+    uint64_t next, lowest;                    /* the next frame, the lowest transaction not complete */
+    uint64_t accepted[LW_FRAME_WINDOW];       /* whether the frame next + i was accepted: not 0 */
+    uint64_t closed[LW_TRANSACTION_WINDOW];   /* whether the transaction lowest + i is closed */
+    struct {
+        uint64_t address, value, count, received;
+    } table[LW_TRANSACTION_WINDOW];           /* the open ones, by number modulo 32; else all 0 */
+} lw_plain;
 
 /* What a received frame is answered. */
 enum lw_kind {
@@ -229,6 +242,9 @@ uint32_t lw_raw_host_receive(lw_host *host, const uint8_t *frame, size_t length,
 uint32_t lw_raw_host_acknowledge(const lw_host *host, const lw_answer *answer, uint16_t number,
                                  uint8_t acknowledgement[LW_ACKNOWLEDGEMENT]);
 void lw_raw_host_describe(const lw_host *host, lw_description *description);
+uint32_t lw_raw_plain_open(lw_plain *host, uint16_t own, uint16_t peer);
+uint32_t lw_raw_plain_receive(lw_plain *host, const uint8_t *frame, size_t length, uint8_t *memory,
+                              size_t size, lw_answer *answer);
 uint32_t lw_raw_card_open(lw_card *card, uint16_t own, uint16_t peer, size_t limit,
                           const uint8_t *slots, size_t size);
 uint32_t lw_raw_card_open_transaction(lw_card *card, uint16_t count, uint32_t address,
@@ -261,6 +277,7 @@ uint32_t lw_raw_replay_close(uint64_t place[LW_REPLAY_WORDS], uint64_t host[LW_H
 #endif
 LW_SAME_SIZE(lw_host, LW_HOST_WORDS);
 LW_SAME_SIZE(lw_card, LW_CARD_WORDS);
+LW_SAME_SIZE(lw_plain, LW_PLAIN_WORDS);
 LW_SAME_SIZE(lw_answer, LW_ANSWER_WORDS);
 LW_SAME_SIZE(lw_totals, 3);
 LW_SAME_SIZE(lw_description, LW_DESCRIPTION_WORDS);
@@ -309,6 +326,24 @@ static inline uint32_t lw_host_acknowledge(const lw_host *host, const lw_answer 
 static inline void lw_host_describe(const lw_host *host, lw_description *description)
 {
     lw_raw_host_describe(host, description);
+}
+
+/* ---- The plain host ---------------------------------------------------- */
+
+/* As lw_host_open. */
+static inline uint32_t lw_plain_open(lw_plain *host, uint16_t own, uint16_t peer)
+{
+    return lw_raw_plain_open(host, own, peer);
+}
+
+/* As lw_host_receive: from a state that is described as the first host's it gives the
+ * same answer and leaves the same memory and the same described state. */
+static inline uint32_t lw_plain_receive(lw_plain *host, const uint8_t *frame, size_t length,
+                                        uint8_t *memory, size_t size, lw_answer *answer)
+{
+    uint8_t none = 0;
+    return lw_raw_plain_receive(host, length != 0 ? frame : &none, length,
+                                size != 0 ? memory : &none, size, answer);
 }
 
 /* ---- The card ---------------------------------------------------------- */

@@ -28,6 +28,7 @@
 mod card;
 mod host;
 mod layout;
+mod plain;
 pub mod raw;
 mod refusal;
 mod replay;
@@ -38,6 +39,7 @@ pub use layout::{
     Layout, ack_count, ack_start, data_bytes, destination, flags, frame_number, layout_refusal,
     message_count, source,
 };
+pub use plain::PlainHost;
 pub use refusal::{Class, Refusal, refusal_class};
 pub use replay::{Replay, Totals};
 

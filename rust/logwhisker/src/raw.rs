@@ -7,6 +7,9 @@
 
 /// Words of a host's state.
 pub const HOST_WORDS: usize = 67;
+/// Words of a plain host's state: own, peer, next, lowest, 64 marks of frames, 32 of
+/// transactions, and address, value, count and received of each of 32 open places.
+pub const PLAIN_WORDS: usize = 228;
 /// Words of a card's state.
 pub const CARD_WORDS: usize = 85;
 /// Words of an answer: kind, number, messages, bytes, completed, refusal, place, run.
@@ -37,6 +40,15 @@ mod exported {
     unsafe extern "C" {
         pub fn lw_raw_host_open(words: *mut u64, own: u16, peer: u16) -> u32;
         pub fn lw_raw_host_receive(
+            words: *mut u64,
+            frame: *const u8,
+            length: usize,
+            memory: *mut u8,
+            size: usize,
+            answer: *mut u64,
+        ) -> u32;
+        pub fn lw_raw_plain_open(words: *mut u64, own: u16, peer: u16) -> u32;
+        pub fn lw_raw_plain_receive(
             words: *mut u64,
             frame: *const u8,
             length: usize,
@@ -151,6 +163,32 @@ pub fn host_receive(
 ) -> u32 {
     unsafe {
         exported::lw_raw_host_receive(
+            words.as_mut_ptr(),
+            frame.as_ptr(),
+            frame.len(),
+            memory.as_mut_ptr(),
+            memory.len(),
+            answer.as_mut_ptr(),
+        )
+    }
+}
+
+/// Opens a plain host: 0 or 13.
+#[inline]
+pub fn plain_open(words: &mut [u64; PLAIN_WORDS], own: u16, peer: u16) -> u32 {
+    unsafe { exported::lw_raw_plain_open(words.as_mut_ptr(), own, peer) }
+}
+
+/// Receives a frame at a plain host and gives the answer's kind.
+#[inline]
+pub fn plain_receive(
+    words: &mut [u64; PLAIN_WORDS],
+    frame: &[u8],
+    memory: &mut [u8],
+    answer: &mut [u64; ANSWER_WORDS],
+) -> u32 {
+    unsafe {
+        exported::lw_raw_plain_receive(
             words.as_mut_ptr(),
             frame.as_ptr(),
             frame.len(),

@@ -1,7 +1,10 @@
-//! The proved host beside the independent one: after every call its answer, the
-//! acknowledgement, memory, description and state are compared.
+//! The proved host and the plain one beside the independent one: after every call its
+//! answer, the acknowledgement, memory, description and state are compared.
+
+mod plain;
 
 use logwhisker::raw::{self, ANSWER_WORDS, DESCRIPTION_WORDS, HOST_WORDS};
+use plain::Plain;
 use reference::host::{Answer, Host};
 
 /// Bytes on both sides of memory that must stay as they are.
@@ -19,9 +22,10 @@ fn named(words: &[u64; HOST_WORDS]) -> [u64; HOST_WORDS] {
     named
 }
 
-/// Both hosts, and the memory of each.
+/// The hosts, and the memory of each.
 pub struct Both {
     words: [u64; HOST_WORDS],
+    plain: Plain,
     /// With a margin on both sides.
     lent: Vec<u8>,
     reference: Host,
@@ -35,22 +39,24 @@ impl Both {
         let got = raw::host_open(&mut words, own, peer);
         let (reference, refusal) = Host::open(own, peer);
         assert_eq!(got, refusal.unwrap_or(0).into(), "opening {own}, {peer}");
-        let both = Both::new(words, reference, memory);
+        let both = Both::new(words, Plain::open(own, peer, memory), reference, memory);
         both.compare_state(&|| format!("opening {own}, {peer}"));
         both
     }
 
     /// Both in the state that these words are.
     pub fn from_words(words: [u64; HOST_WORDS], memory: &[u8]) -> Both {
-        let both = Both::new(words, Host::from_words(&words), memory);
+        let plain = Plain::from_words(&words, memory);
+        let both = Both::new(words, plain, Host::from_words(&words), memory);
         both.compare_state(&|| format!("{words:x?}"));
         both
     }
 
-    fn new(words: [u64; HOST_WORDS], reference: Host, memory: &[u8]) -> Both {
+    fn new(words: [u64; HOST_WORDS], plain: Plain, reference: Host, memory: &[u8]) -> Both {
         let margin = [0xa5; MARGIN];
         Both {
             words,
+            plain,
             lent: [&margin[..], memory, &margin].concat(),
             reference,
             memory: memory.to_vec(),
@@ -68,6 +74,7 @@ impl Both {
         let expected = self.reference.receive(frame, &mut self.memory);
         assert_eq!(answer, answer_words(expected), "{expected:?}: {}", name());
         assert_eq!(u64::from(kind), answer[0], "kind: {}", name());
+        self.plain.receive(frame, &answer, &self.memory, name);
         let at = self.lent[MARGIN..end]
             .iter()
             .zip(&self.memory)
@@ -115,6 +122,9 @@ impl Both {
         );
         let got = Host::from_words(&self.words).to_words();
         assert!(got == self.reference.to_words(), "state: {}", name());
+        let got = Host::from_words(&self.plain.host_words()).to_words();
+        let expected = self.reference.to_words();
+        assert!(got == expected, "state of the plain host: {}", name());
     }
 
     /// What both hosts left.
