@@ -1,7 +1,7 @@
 // The library's face: what a caller in Rattle uses. Both ends in place over words that the caller lends, and the host
-// by value; a frame's layout; a refusal's class; the replay from fragments. Assumes nothing: any words are a state, and
-// any bytes get an answer. It promises what specs/Face.antt says, which is what the theorem of the crate delivery is
-// about; what it passes on promises by the definitions of its own crate.
+// by value; the plain host; a frame's layout; a refusal's class; the replay from fragments. Assumes nothing: any words
+// are a state, and any bytes get an answer. It promises what specs/Face.antt says, which is what the theorem of the
+// crate delivery is about; what it passes on promises by the definitions of its own crate.
 pub use card_choose::Choice;
 pub use card_number::OpenedTransaction;
 pub use card_number::SealedFrame;
@@ -13,6 +13,11 @@ pub use host::Pair;
 pub use host::Stepped;
 pub use host_answer::kind_of;
 pub use host_answer::put_answer;
+pub use host_plain::PlainOpened;
+pub use host_plain::PlainPair;
+pub use host_plain::PlainStepped;
+pub use host_plain::open_pair as open_plain_host;
+pub use host_plain::receive as receive_plainly;
 pub use refusal::class_number;
 pub use refusal::class_of;
 pub use replay_feed::close as close_replay;
