@@ -22,7 +22,8 @@ enum {
     MOST_SLOTS = 600000,
     MOST_MEMORY = 1048576,
     MOST_ARGUMENTS = 5,
-    UNWRITTEN = 0xa5 /* what slots are filled with */
+    UNWRITTEN = 0xa5, /* what slots are filled with */
+    UNSTORED = 0x2e   /* what a buffer to store in is filled with */
 };
 
 /* Bytes of the program's own, NULL while there are none. */
@@ -36,6 +37,7 @@ struct program {
     struct buffer slots;
     lw_host host;
     struct buffer memory;
+    struct buffer text; /* the latest buffer to store in */
     uint8_t bytes[LONGEST_LINE / 2]; /* those of the line's last word */
     char line[LONGEST_LINE];
     size_t length; /* of the line; one more than LONGEST_LINE stands for any more */
@@ -335,6 +337,36 @@ static bool call_receive(struct program *program, const struct word *words)
     return true;
 }
 
+static bool call_store(struct program *program, const struct word *words)
+{
+    uint32_t size;
+    size_t length;
+
+    if (!read_number(words[0], MOST_MEMORY, &size))
+        return false;
+    renew(&program->text, size, UNSTORED);
+    const uint32_t refusal = lw_host_store(&program->host, program->text.start, size, &length);
+    if (refusal == LW_NOT_REFUSED)
+        printf("n %zu ", length);
+    else
+        printf("R %" PRIu32 " ", refusal);
+    if (size == 0)
+        putchar('-');
+    put_bytes(program->text.start, size);
+    putchar('\n');
+    return true;
+}
+
+static bool call_restore(struct program *program, const struct word *words)
+{
+    size_t length;
+
+    if (!read_bytes(words[0], program->bytes, &length))
+        return false;
+    put_done(lw_host_restore(&program->host, program->bytes, length));
+    return true;
+}
+
 static bool call_layout(struct program *program, const struct word *words)
 {
     static uint32_t (*const fields[])(const uint8_t *, size_t) = {
@@ -411,7 +443,8 @@ static const struct command {
     {"add", 3, call_add},       {"seal", 0, call_seal},       {"read", 1, call_read},
     {"show", 1, call_show},     {"choose", 1, call_choose},   {"receive", 1, call_receive},
     {"layout", 1, call_layout}, {"class", 1, call_class},     {"slots", 0, call_slots},
-    {"memory", 0, call_memory}, {"state", 0, call_state},
+    {"memory", 0, call_memory}, {"state", 0, call_state},     {"store", 1, call_store},
+    {"restore", 1, call_restore},
 };
 
 /* Does what the line says and writes the answer; false if it is of no form. */
@@ -463,5 +496,6 @@ int main(void)
         perror("calls");
     free(program.slots.start);
     free(program.memory.start);
+    free(program.text.start);
     return failed ? EXIT_FAILURE : EXIT_SUCCESS;
 }

@@ -942,6 +942,56 @@ static void check_wild_hosts(void)
     end_group("hosts of any words");
 }
 
+/* Any host is stored or refused, and what can be read back is stored as the same text. */
+static void check_stored_hosts(void)
+{
+    uint8_t *const text = with_closed_end(LW_LONGEST_TEXT);
+    uint64_t seed = 4;
+    unsigned long stored = 0;
+    unsigned long read_back = 0;
+
+    for (unsigned long i = 0; i < 30000; i++) {
+        uint8_t again[LW_LONGEST_TEXT];
+        size_t length = 1;
+        size_t second = 1;
+        lw_description state, other;
+        lw_host host;
+        if (i % 2 == 0)
+            make_wild(host.words, LW_HOST_WORDS, &seed);
+        else
+            lw_host_open(&host, (uint16_t)(i % 7), (uint16_t)(i % 5));
+        lw_host_describe(&host, &state);
+        const uint32_t refusal = lw_host_store(&host, text, LW_LONGEST_TEXT, &length);
+        check("13 exactly for an ID 0", i, refusal,
+              state.own == 0 || state.peer == 0 ? LW_REFUSED_ID_ZERO : LW_NOT_REFUSED);
+        check("length", i, length, refusal == 0 ? 47 + 33 * state.open : 0);
+        if (refusal == 0) {
+            stored++;
+            check("too short", i, lw_host_store(&host, again, length - 1, &second),
+                  LW_REFUSED_BUFFER_SHORT);
+            const uint32_t read = lw_host_restore(&host, text, length);
+            lw_host_describe(&host, &other);
+            if (read == 0) {
+                read_back++;
+                check("same host", i, (unsigned)memcmp(&state, &other, sizeof state), 0);
+                check("stored again", i, lw_host_store(&host, again, sizeof again, &second), 0);
+                check("same length", i, second, length);
+                check("same text", i, (unsigned)memcmp(again, text, length), 0);
+            } else {
+                check("15", i, read, LW_REFUSED_BAD_TEXT);
+                check("both IDs 0", i, other.own == 0 && other.peer == 0, 1);
+            }
+        }
+    }
+    check("many were stored", stored, stored > 1000, 1);
+    check("many were read back", read_back, read_back > 1000, 1);
+    lw_host host;
+    check("no bytes", 0, lw_host_restore(&host, NULL, 0), LW_REFUSED_BAD_TEXT);
+    size_t length = 1;
+    check("no buffer", 0, lw_host_store(&host, NULL, 0, &length), LW_REFUSED_ID_ZERO);
+    end_group("stored hosts");
+}
+
 /* As numbers: pointers that do not lie in one buffer may not be compared. */
 static bool lies_in(lw_part part, const uint8_t *buffer, size_t size)
 {
@@ -1043,13 +1093,15 @@ static void check_names(void)
     CHECK_NAME(25, NOT_HELD);
     CHECK_NAME(26, BAD_LIMIT_OR_SLOTS);
     CHECK_NAME(27, DATA_FOR_BARE);
+    check("constant", 15, LW_REFUSED_BAD_TEXT, 15);
     check("constant", 17, LW_REFUSED_REPLAY_CLOSED, 17);
-    check("no class", 17, lw_refusal_class(17), LW_CLASS_NONE);
+    check("constant", 19, LW_REFUSED_BUFFER_SHORT, 19);
     check("none", 0, strcmp(lw_refusal_name(0), "none") == 0, 1);
     for (uint32_t number = 1; number < 300; number++)
-        check("unknown exactly without a class, and not 17", number,
+        check("unknown exactly without a class, and not 15, 17 or 19", number,
               strcmp(lw_refusal_name(number), "unknown") == 0,
-              number != 17 && lw_refusal_class(number) == LW_CLASS_NONE);
+              number != 15 && number != 17 && number != 19 &&
+                  lw_refusal_class(number) == LW_CLASS_NONE);
     check("unknown", 0, strcmp(lw_refusal_name(UINT32_MAX), "unknown") == 0, 1);
     end_group("names of refusals");
 }
@@ -1078,6 +1130,7 @@ int main(void)
     check_coming_round();
     check_null();
     check_wild_hosts();
+    check_stored_hosts();
     check_wild_cards();
     check_names();
     return end_checks();

@@ -61,8 +61,14 @@ enum lw_refusal {
     LW_REFUSED_ID_ZERO = 13,  /* an end was to be opened with ID 0 */
     LW_REFUSED_BAD_LINE = 14, /* a line of the replay is not whole bytes in hexadecimal */
 
+    /* A host's stored text. */
+    LW_REFUSED_BAD_TEXT = 15, /* no host is stored as this text */
+
     /* The replay from fragments. */
     LW_REFUSED_REPLAY_CLOSED = 17, /* the replay was closed before */
+
+    /* A host's stored text. */
+    LW_REFUSED_BUFFER_SHORT = 19, /* the buffer is shorter than the text */
 
     /* A step of the card. */
     LW_REFUSED_TRANSACTION_WINDOW_FULL = 20, /* 32 transactions from the lowest unfinished one on */
@@ -77,7 +83,7 @@ enum lw_refusal {
 
 /* What a refusal is about. */
 enum lw_class {
-    LW_CLASS_NONE = 0,    /* no refusal, or 17, which has no class */
+    LW_CLASS_NONE = 0,    /* no refusal, or 15, 17 or 19, which have no class */
     LW_CLASS_WIRE = 1,    /* the frame as a whole: 1 to 6 */
     LW_CLASS_MESSAGE = 2, /* one message: 7 to 12 */
     LW_CLASS_CALLER = 3,  /* what the caller asked for: 13 and 14 */
@@ -85,7 +91,7 @@ enum lw_class {
 };
 
 /* The class of a refusal number, as one of enum lw_class. Any number may be asked
- * for; 17 and those that are no refusal above are LW_CLASS_NONE. */
+ * for; 15, 17, 19 and those that are no refusal above are LW_CLASS_NONE. */
 uint32_t lw_refusal_class(uint32_t number);
 
 /* A few words for a refusal number, as a static string: its constant's name in
@@ -108,7 +114,9 @@ static inline const char *lw_refusal_name(uint32_t number)
     case LW_REFUSED_COMPLETION_OUTSIDE_MEMORY: return "completion outside memory";
     case LW_REFUSED_ID_ZERO: return "id zero";
     case LW_REFUSED_BAD_LINE: return "bad line";
+    case LW_REFUSED_BAD_TEXT: return "bad text";
     case LW_REFUSED_REPLAY_CLOSED: return "replay closed";
+    case LW_REFUSED_BUFFER_SHORT: return "buffer short";
     case LW_REFUSED_TRANSACTION_WINDOW_FULL: return "transaction window full";
     case LW_REFUSED_FRAME_WINDOW_FULL: return "frame window full";
     case LW_REFUSED_FRAME_FULL: return "frame full";
@@ -129,6 +137,7 @@ static inline const char *lw_refusal_name(uint32_t number)
 #define LW_LONGEST_FRAME 9000 /* bytes of a frame at most */
 #define LW_FRAME_WINDOW 64    /* frames under way at most, and slots of a card */
 #define LW_TRANSACTION_WINDOW 32
+#define LW_LONGEST_TEXT 1103  /* bytes of a host's stored text at most; at least 47 */
 
 /* Bytes of the slot buffer of a card whose frame limit this is. */
 #define LW_SLOTS_SIZE(limit) ((size_t)LW_FRAME_WINDOW * (limit))
@@ -242,6 +251,8 @@ uint32_t lw_raw_host_receive(lw_host *host, const uint8_t *frame, size_t length,
 uint32_t lw_raw_host_acknowledge(const lw_host *host, const lw_answer *answer, uint16_t number,
                                  uint8_t acknowledgement[LW_ACKNOWLEDGEMENT]);
 void lw_raw_host_describe(const lw_host *host, lw_description *description);
+uint32_t lw_raw_host_store(const lw_host *host, uint8_t *text, size_t size, size_t *length);
+uint32_t lw_raw_host_restore(lw_host *host, const uint8_t *text, size_t length);
 uint32_t lw_raw_plain_open(lw_plain *host, uint16_t own, uint16_t peer);
 uint32_t lw_raw_plain_receive(lw_plain *host, const uint8_t *frame, size_t length, uint8_t *memory,
                               size_t size, lw_answer *answer);
@@ -326,6 +337,29 @@ static inline uint32_t lw_host_acknowledge(const lw_host *host, const lw_answer 
 static inline void lw_host_describe(const lw_host *host, lw_description *description)
 {
     lw_raw_host_describe(host, description);
+}
+
+/* Stores the host as text from the start of a buffer of size bytes on, to be kept
+ * over a restart: lines of hexadecimal, at most LW_LONGEST_TEXT bytes, without a 0
+ * behind them. Returns 0 and the text's length in *length; or the first that applies
+ * of LW_REFUSED_ID_ZERO (the host was never opened) and LW_REFUSED_BUFFER_SHORT, and
+ * 0 in *length. Past the text, and where it is refused, the buffer stays as it was;
+ * the host does not change. */
+static inline uint32_t lw_host_store(const lw_host *host, uint8_t *text, size_t size,
+                                     size_t *length)
+{
+    uint8_t none = 0;
+    return lw_raw_host_store(host, size != 0 ? text : &none, size, length);
+}
+
+/* Makes a host of a stored text, whatever *host held before: the very one that was
+ * stored. Returns 0, or LW_REFUSED_BAD_TEXT where no host is stored as this text;
+ * then the host is a fresh one with both IDs 0. What it is to go on with is the
+ * memory of the moment at which it was stored. */
+static inline uint32_t lw_host_restore(lw_host *host, const uint8_t *text, size_t length)
+{
+    const uint8_t none = 0;
+    return lw_raw_host_restore(host, length != 0 ? text : &none, length);
 }
 
 /* ---- The plain host ---------------------------------------------------- */

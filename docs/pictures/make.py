@@ -659,7 +659,7 @@ FLOORS = {
     "capi": ("C: what the header is made of", TEAL, ("kit", "ground", "wire", "host", "card", "theorem", "text", "replay", "face")),
 }
 NAMED = {
-    "seq": "ground", "bitmap": "ground", "octets": "ground", "refusal": "ground", "delivery": "theorem", "edges": "theorem",
+    "seq": "ground", "bitmap": "ground", "octets": "ground", "refusal": "ground", "hex_fields": "ground", "delivery": "theorem", "edges": "theorem",
     "logwhisker": "face", "hex": "text", "bytes": "kit", "io": "kit", "libc": "kit", "os": "kit",
 }
 PROGRAMS = {"replay"}

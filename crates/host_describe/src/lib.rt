@@ -17,7 +17,7 @@ ghost use Rattle.host_describe.specs.Describing.{
 };
 
 // The number of the transaction j past the lowest one.
-fn number_at(words: &[u64], j: u32) -> u32
+pub fn number_at(words: &[u64], j: u32) -> u32
     ensures { λ r. ⌜ r ≡ numberAt (pairOf (now (words .entry))) j ⌝ }
 {
     let lowest = host_words::lowest(words);
@@ -25,7 +25,7 @@ fn number_at(words: &[u64], j: u32) -> u32
 }
 
 // Its entry.
-fn entry_at(words: &[u64], j: u32) -> Open
+pub fn entry_at(words: &[u64], j: u32) -> Open
     ensures { λ r. ⌜ r ≡ entryAt (pairOf (now (words .entry))) j ⌝ }
 {
     let number = number_at(words, j);
@@ -33,7 +33,7 @@ fn entry_at(words: &[u64], j: u32) -> Open
 }
 
 // How many transactions are open.
-fn count_open(words: &[u64]) -> u32
+pub fn count_open(words: &[u64]) -> u32
     ensures { λ r. ⌜ r ≡ openCount 32 0 (pairOf (now (words .entry))) ⌝ }
 {
     let mut count: u32 = 0;

@@ -37,6 +37,12 @@ pub const ID_ZERO: u8 = 13;
 
 pub const BAD_LINE: u8 = 14;
 
+// ---- of storing a pair and reading it back, without a class
+
+pub const BAD_TEXT: u8 = 15;
+
+pub const BUFFER_SHORT: u8 = 19;
+
 // ---- of the card
 
 pub const TRANSACTION_WINDOW_FULL: u8 = 20;

@@ -233,6 +233,31 @@ impl Host {
         Description::from_words(&words)
     }
 
+    /// Stores the host as text from the start of `buffer` on and gives the text's length, at
+    /// most [`LONGEST_TEXT`](crate::LONGEST_TEXT); refused if an ID is 0 or the buffer is
+    /// shorter. Past the text, and where it is refused, the buffer stays as it was.
+    pub fn store(&self, buffer: &mut [u8]) -> Result<usize, Refusal> {
+        let mut length = 0;
+        Refusal::check(raw::host_store(&self.words, buffer, &mut length))?;
+        Ok(length)
+    }
+
+    /// The host that was stored as this text, to go on with the memory of that moment;
+    /// refused if no host is stored as it.
+    pub fn from_text(text: &[u8]) -> Result<Host, Refusal> {
+        let mut host = Host {
+            words: [0; HOST_WORDS],
+        };
+        host.restore(text)?;
+        Ok(host)
+    }
+
+    /// Takes up the place of a stored text; where that is refused, the end is as
+    /// [`Host::new`] makes it.
+    pub fn restore(&mut self, text: &[u8]) -> Result<(), Refusal> {
+        Refusal::check(raw::host_restore(&mut self.words, text))
+    }
+
     /// The state that these words are; any words are one.
     pub fn from_words(words: [u64; HOST_WORDS]) -> Host {
         Host { words }

@@ -47,5 +47,7 @@ pub use replay::{Replay, Totals};
 pub const FRAME_HEADER: usize = 10;
 /// The longest frame that is read.
 pub const LONGEST_FRAME: usize = 9_000;
+/// The longest text that a host is stored as; the shortest has 47 bytes.
+pub const LONGEST_TEXT: usize = 1_103;
 /// Slots of a card's buffer; it has this many times the frame limit in bytes.
 pub const SLOTS: usize = 64;

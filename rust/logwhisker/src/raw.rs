@@ -63,6 +63,13 @@ mod exported {
             frame: *mut u8,
         ) -> u32;
         pub fn lw_raw_host_describe(words: *const u64, description: *mut u64);
+        pub fn lw_raw_host_store(
+            words: *const u64,
+            text: *mut u8,
+            size: usize,
+            length: *mut usize,
+        ) -> u32;
+        pub fn lw_raw_host_restore(words: *mut u64, text: *const u8, length: usize) -> u32;
         pub fn lw_raw_replay_open(place: *mut u64, words: *mut u64, memory: *mut u8);
         pub fn lw_raw_replay_feed(
             place: *mut u64,
@@ -222,6 +229,16 @@ pub fn host_acknowledge(
 #[inline]
 pub fn host_describe(words: &[u64; HOST_WORDS], description: &mut [u64; DESCRIPTION_WORDS]) {
     unsafe { exported::lw_raw_host_describe(words.as_ptr(), description.as_mut_ptr()) }
+}
+
+/// Stores a host as text: 0 and the text's length, or 13 or 19 and 0.
+pub fn host_store(words: &[u64; HOST_WORDS], text: &mut [u8], length: &mut usize) -> u32 {
+    unsafe { exported::lw_raw_host_store(words.as_ptr(), text.as_mut_ptr(), text.len(), length) }
+}
+
+/// Reads a host back from its text: 0 or 15.
+pub fn host_restore(words: &mut [u64; HOST_WORDS], text: &[u8]) -> u32 {
+    unsafe { exported::lw_raw_host_restore(words.as_mut_ptr(), text.as_ptr(), text.len()) }
 }
 
 /// Opens a replay.

@@ -56,8 +56,12 @@ refusals! {
     ID_ZERO = 13,
     /// A replay line is not whole bytes in hexadecimal.
     BAD_LINE = 14,
+    /// No host is stored as this text.
+    BAD_TEXT = 15,
     /// The replay was closed before.
     REPLAY_CLOSED = 17,
+    /// The buffer is shorter than the text.
+    BUFFER_SHORT = 19,
     /// The window of 32 transactions is used up.
     TRANSACTION_WINDOW_FULL = 20,
     /// 64 sealed frames are not released.

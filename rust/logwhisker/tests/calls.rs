@@ -100,9 +100,10 @@ fn lines_of_any_kind() {
         met.extend(assert_same(&wild(seed)).lines().map(beginning_of));
     }
     // Without these an agreement could be one about next to nothing. 14 is the replay's.
-    let refusals = (1..=13).chain(20..=27).map(|number| format!("R {number}"));
+    let refusals = (1..=13).chain([15, 19]).chain(20..=27);
+    let refusals = refusals.map(|number| format!("R {number}"));
     let others = [
-        "?", "ok", "t", "f", "slot", "lent", "A", "G", "N", "L", "own",
+        "?", "ok", "t", "f", "slot", "lent", "A", "G", "N", "L", "own", "n",
     ];
     let wanted = refusals.chain(others.map(String::from));
     let missed: Vec<String> = wanted.filter(|wanted| !met.contains(wanted)).collect();

@@ -15,6 +15,9 @@ mod line;
 
 pub use line::{LONGEST_LINE, MOST_MEMORY, MOST_SLOTS};
 
+/// What a buffer to store in is filled with.
+const UNSTORED: u8 = b'.';
+
 /// The program between two lines.
 #[derive(Clone, Debug)]
 pub struct Program<E: Ends> {
@@ -98,6 +101,16 @@ impl<E: Ends> Program<E> {
             Line::Slots => digest(&self.slots),
             Line::Memory => digest(&self.memory),
             Line::State => state(self.host.host()),
+            Line::Store(length) => {
+                let mut text = vec![UNSTORED; length];
+                let stored = self.host.host().store(&mut text);
+                format!("{} {}", numbered("n", stored), hex(&text))
+            }
+            Line::Restore(text) => {
+                let (host, refusal) = Host::restored(&text);
+                self.host.put(host);
+                done(refusal.map_or(Ok(()), Err))
+            }
         }
     }
 

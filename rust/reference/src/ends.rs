@@ -33,6 +33,8 @@ pub trait HostEnd {
     fn acknowledgement(&self, answer: Answer, next_number: u16) -> Option<[u8; FRAME_HEADER]>;
     /// The reference host inside, whose state is told.
     fn host(&self) -> &Host;
+    /// Goes on with another state.
+    fn put(&mut self, host: Host);
 }
 
 /// Where the numbers of both ends start: 0 and 0 unless a test wants to be near the
@@ -141,5 +143,9 @@ impl HostEnd for Host {
 
     fn host(&self) -> &Host {
         self
+    }
+
+    fn put(&mut self, host: Host) {
+        *self = host;
     }
 }

@@ -9,6 +9,7 @@ use crate::wire::{self, FRAME_HEADER, Message};
 use std::collections::{BTreeMap, BTreeSet};
 use std::fmt;
 
+mod stored;
 mod words;
 
 pub use words::HOST_WORDS;
@@ -160,6 +161,11 @@ impl Host {
     /// The same end with windows of other sizes. For tests of what those break.
     pub fn with_windows(self, windows: Windows) -> Host {
         Host { windows, ..self }
+    }
+
+    /// The sizes that it goes by.
+    pub fn windows(&self) -> Windows {
+        self.windows
     }
 
     /// Answers any bytes at all.

@@ -21,6 +21,7 @@ pub mod rng;
 pub mod script;
 pub mod settings;
 pub mod simulator;
+pub mod texts;
 pub mod traffic;
 pub mod windows;
 pub mod wire;

@@ -34,6 +34,11 @@ pub const ID_ZERO: u8 = 13;
 /// The line is not a whole number of bytes in hexadecimal.
 pub const BAD_LINE: u8 = 14;
 
+/// No pair is stored as this text (R7).
+pub const BAD_TEXT: u8 = 15;
+/// The buffer has no room for the text (R6).
+pub const BUFFER_SHORT: u8 = 19;
+
 /// The card's window of transactions is used up.
 pub const TRANSACTIONS_FULL: u8 = 20;
 /// Every slot holds a sealed frame that is not released.

@@ -76,6 +76,7 @@ fn the_stored_script_has_every_refusal_and_answer() {
         ("layout", 1),
         ("layout", 4),
         ("layout", 5),
+        ("restore", 15),
     ];
     for (word, number) in host.into_iter().chain(card) {
         let refused = match word {
@@ -108,6 +109,10 @@ fn the_stored_script_has_every_refusal_and_answer() {
         ("slots", ""),
         ("memory", ""),
         ("state", "own "),
+        ("store", "n "),
+        ("store", "R 13 "),
+        ("store", "R 19 "),
+        ("restore", "ok"),
         ("hello", "?"),
     ] {
         let answered = has(word, &|got| got.starts_with(answer));
@@ -134,12 +139,12 @@ fn lines_of_any_kind_meet_every_answer() {
     let mut met: BTreeMap<(String, String), u64> = BTreeMap::new();
     for seed in 0..4 {
         let mut wild = Wild::new(seed);
-        for _ in 0..10_000 {
+        for _ in 0..12_000 {
             let (line, answer) = wild.next_line();
             *met.entry(kind(&line, &answer)).or_default() += 1;
         }
     }
-    let refusals: [(&str, &[u8]); 10] = [
+    let refusals: [(&str, &[u8]); 12] = [
         ("card", &[13, 26]),
         ("host", &[13]),
         ("open", &[20]),
@@ -150,6 +155,8 @@ fn lines_of_any_kind_meet_every_answer() {
         ("read", &[1, 2, 3, 4, 5]),
         ("receive", &[1, 2, 3, 4, 5, 6, 7, 8, 9, 10, 11, 12]),
         ("layout", &[1, 2, 4, 5]),
+        ("store", &[13, 19]),
+        ("restore", &[15]),
     ];
     let refused = refusals
         .iter()
@@ -176,6 +183,8 @@ fn lines_of_any_kind_meet_every_answer() {
         "slots digest",
         "memory digest",
         "state own",
+        "store n",
+        "restore ok",
         "show ?",
         "add ?",
         "card ?",

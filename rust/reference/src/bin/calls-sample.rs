@@ -61,6 +61,7 @@ fn main() {
     showing_and_choosing(&mut script);
     host(&mut script);
     runs(&mut script);
+    stored(&mut script);
     questions(&mut script);
     no_form(&mut script);
 
@@ -391,6 +392,38 @@ fn runs(script: &mut Script) {
         ("read 02000100000000000600", "ok"),
         ("choose -", &format!("slot 204 {last}")),
     ]);
+}
+
+/// A host across the wrap of its transaction numbers, stored, lost and read back.
+fn stored(script: &mut Script) {
+    let first = "0101000200ffff0600000000000000ffffffff04000000\n";
+    let nearest = "ffffffff400000004433221103000100\n";
+    let further = "00000000080000000900000002000100\n";
+    let text = [first, nearest, further].concat();
+    let spelled = |text: &str| hex(text.as_bytes());
+    let state = "own 1 peer 2 next 65535 marks 0000000000000006 lowest 4294967295 closed 00000004 \
+                 [4294967295 64 287454020 3 1 0] [0 8 9 2 1 0]";
+    script.line(&format!("restore {}", spelled(&text)), "ok");
+    script.line("state", state);
+    script.line("store 113", &format!("n 113 {}", spelled(&text)));
+    script.line("store 115", &format!("n 113 {}2e2e", spelled(&text)));
+    script.line("store 112", &format!("R 19 {}", "2e".repeat(112)));
+    script.line("store 0", "R 19 -");
+    // Out of order, in upper case, without its last newline, with one more, with own ID 0.
+    let wrong = [
+        [first, further, nearest].concat(),
+        text.replacen('f', "F", 1),
+        text[..112].to_string(),
+        text.clone() + "\n",
+        text.replacen("0101", "0100", 1),
+    ];
+    for wrong in wrong {
+        script.line(&format!("restore {}", spelled(&wrong)), "R 15");
+    }
+    let fresh = "own 0 peer 0 next 0 marks 0000000000000000 lowest 0 closed 00000000";
+    script.line("state", fresh);
+    script.line("store 3", "R 13 2e2e2e");
+    script.line("restore -", "R 15");
 }
 
 fn questions(script: &mut Script) {

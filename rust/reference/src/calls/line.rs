@@ -45,6 +45,8 @@ pub enum Line {
     Slots,
     Memory,
     State,
+    Store(usize),
+    Restore(Vec<u8>),
 }
 
 impl Line {
@@ -91,6 +93,11 @@ impl Line {
             (b"slots", []) => Some(Line::Slots),
             (b"memory", []) => Some(Line::Memory),
             (b"state", []) => Some(Line::State),
+            (b"store", [length]) => {
+                let length = number(length).filter(|length| *length <= MOST_MEMORY)?;
+                Some(Line::Store(length))
+            }
+            (b"restore", [text]) => Some(Line::Restore(bytes(text)?)),
             _ => None,
         }
     }

@@ -184,4 +184,8 @@ impl HostEnd for FaultyHost {
     fn host(&self) -> &Host {
         &self.host
     }
+
+    fn put(&mut self, host: Host) {
+        self.host = host.with_windows(self.host.windows());
+    }
 }

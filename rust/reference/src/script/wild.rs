@@ -5,6 +5,7 @@
 use crate::calls::{Program, hex};
 use crate::ends::{CardEnd, Sound};
 use crate::rng::Rng;
+use crate::texts::{Damage, any_text, damaged};
 use crate::traffic::{Kind, Traffic};
 use crate::wire::{self, FRAME_HEADER};
 
@@ -126,6 +127,8 @@ impl Wild {
             4 | 5 => "state".to_string(),
             6 => format!("class {}", self.any_number()),
             7 => return self.no_form(),
+            8 => self.store(),
+            9 => self.restore(),
             _ => match &mut self.episode {
                 Episode::Guided(traffic) => {
                     let line = traffic.next_line().text;
@@ -137,6 +140,40 @@ impl Wild {
             },
         };
         line.into_bytes()
+    }
+
+    /// Into a buffer around the text's own length.
+    fn store(&mut self) -> String {
+        let length = self.program.host().text().len();
+        let length = match self.rng.below(6) {
+            0 => 0,
+            1 => length - 1,
+            2 => length + 1,
+            3 => self.rng.below(1_200),
+            _ => length,
+        };
+        format!("store {length}")
+    }
+
+    /// From the host's own text, or from one that is damaged or another's, after which the
+    /// own one is read again.
+    fn restore(&mut self) -> String {
+        let own = self.program.host().text();
+        if self.rng.chance(1, 3) {
+            return format!("restore {}", hex(own.as_bytes()));
+        }
+        self.due.push(format!("restore {}", hex(own.as_bytes())));
+        self.due.push("state".to_string());
+        let text = match self.rng.below(3) {
+            0 => own,
+            _ => any_text(&mut self.rng),
+        };
+        let damage = self.rng.pick(&Damage::ALL);
+        let text = match self.rng.below(4) {
+            0 => text.into_bytes(),
+            _ => damaged(&mut self.rng, text.as_bytes(), damage),
+        };
+        format!("restore {}", hex(&text))
     }
 
     /// A call on either end, of the first `kinds` of 32.
@@ -334,7 +371,7 @@ impl Wild {
     }
 
     fn no_form(&mut self) -> Vec<u8> {
-        let lines: [&[u8]; 24] = [
+        let lines: [&[u8]; 28] = [
             b"",
             b" ",
             b"seal ",
@@ -358,6 +395,10 @@ impl Wild {
             b"card 1 2 34 2176",
             b"card 1 2 34 2176 2",
             b"host 1 2 1048577",
+            b"store 1048577",
+            b"store -",
+            b"restore 0",
+            b"restore",
             b"class \xff",
         ];
         self.rng.pick(&lines).to_vec()
