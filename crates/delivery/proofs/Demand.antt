@@ -115,7 +115,7 @@ module _ (cardId hostId : ℕ) (cardFits : cardId < frameSpace) (hostFits : host
       (fitting .1) (timely .1) k
 
   -- What agreement comes to. Each line rewrites with its fact, so that it shows whatever follows from that.
-  guaranteed : (w : System) (b : Book) → For w b → Guarantees (outcomeOf w) b
+  pub guaranteed : (w : System) (b : Book) → For w b → Guarantees (outcomeOf w) b
   guaranteed w b f = record {
     answersMatch = rw (f .rest .traffic .matching) refl;
     acceptedOnce = λ c e. rw (once c e) refl;

@@ -328,7 +328,7 @@ accepting-reachable p num t r s =
     fits : marked < 2 ^ 64
     fits = withMark-lt 64 (p .marks) (distance frameSpace (p .next .0) num) (r .marks-fit)
 
-byNumber-reachable : (p : Pair) (memory : List ℕ) (num : ℕ) (ms : List Message) → Reachable p → AllFit ms
+pub byNumber-reachable : (p : Pair) (memory : List ℕ) (num : ℕ) (ms : List Message) → Reachable p → AllFit ms
     → Reachable (byNumber p memory num ms .pair)
 unfolding byNumber
 byNumber-reachable p memory num ms r f = go (settled p num) refl (leb 64 d) refl

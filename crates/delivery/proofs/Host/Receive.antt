@@ -155,7 +155,7 @@ unfolding seenAs acksFor acknowledgementFrom
 none-no-effect h = record { seen = refl; noAck = refl; noSummand = λ g. refl }
 
 -- 10 bytes hold no message, whatever they are
-receive-short : (h : Pair) (g memory : List ℕ) → length g ≤ 10
+pub receive-short : (h : Pair) (g memory : List ℕ) → length g ≤ 10
     → (a : Answer) × NoEffect h a × (receiveOf h g memory ≡ unchanged h memory a)
 receive-short h g memory l = go (ℕ-discrete (refusalOf (readFrame (addressed (h .own) (h .peer) g) g)) 0)
   where
@@ -313,7 +313,7 @@ module _ (cardId hostId : ℕ) (cardFits : cardId < frameSpace) (hostFits : host
         (along-more (Acknowledges cardId hostId) (w .acks) (b .acksDue) (ackFrame cardId hostId 0 num run)
         (ackOf frames′ c) (f .rest .traffic .acksAre) refl)
 
-    all-fit : (xs : List MessageRecord) → ((e : MessageRecord) → List·Memᴰ e xs → List·Memᴰ e (addedMessages b))
+    pub all-fit : (xs : List MessageRecord) → ((e : MessageRecord) → List·Memᴰ e xs → List·Memᴰ e (addedMessages b))
         → AllFit (map (wired (b .transactions)) xs)
     all-fit [] m = tt
     all-fit (e ∷ xs) m =
@@ -352,7 +352,7 @@ module _ (cardId hostId : ℕ) (cardFits : cardId < frameSpace) (hostFits : host
         (λ z. omega arith)
         ∙ ap (λ (n : ℕ). byNumber h memory n all) (frame-number hostId cardId num hostFits cardFits nf all)
 
-    received : (g : List ℕ) → Copied cardId hostId b g (frameCopy c)
+    pub received : (g : List ℕ) → Copied cardId hostId b g (frameCopy c)
         → receiveOf h g (w .memory) ≡ byNumber h (bookMemory b) num ms
     received g copy =
         ap (λ (x : List ℕ). receiveOf h x (w .memory)) (copy .0)
