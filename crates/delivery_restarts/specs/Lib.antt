@@ -1,0 +1,3 @@
+pub mod Restarts
+pub mod OverRestarts
+pub mod WrongStores
