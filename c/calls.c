@@ -74,22 +74,34 @@ static size_t split(const char *line, size_t length, struct word *words, size_t 
     return count;
 }
 
-/* One or more decimal digits, of a value up to `most`. */
-static bool read_number(struct word word, uint32_t most, uint32_t *value)
+/* One or more decimal digits, of a value of 64 bits. */
+static bool read_wide(struct word word, uint64_t *value)
 {
     uint64_t sum = 0;
 
     if (word.length == 0)
         return false;
     for (size_t i = 0; i < word.length; i++) {
-        const char digit = word.start[i];
-        if (digit < '0' || digit > '9')
+        const char character = word.start[i];
+        if (character < '0' || character > '9')
             return false;
-        sum = sum * 10 + (uint64_t)(digit - '0');
-        if (sum > most)
+        const uint64_t digit = (uint64_t)(character - '0');
+        if (sum > (UINT64_MAX - digit) / 10)
             return false;
+        sum = sum * 10 + digit;
     }
-    *value = (uint32_t)sum;
+    *value = sum;
+    return true;
+}
+
+/* The same, of a value up to `most`. */
+static bool read_number(struct word word, uint32_t most, uint32_t *value)
+{
+    uint64_t wide;
+
+    if (!read_wide(word, &wide) || wide > most)
+        return false;
+    *value = (uint32_t)wide;
     return true;
 }
 
@@ -400,6 +412,17 @@ static bool call_class(struct program *program, const struct word *words)
     return true;
 }
 
+static bool call_marks(struct program *program, const struct word *words)
+{
+    uint64_t marks;
+
+    (void)program;
+    if (!read_wide(words[0], &marks))
+        return false;
+    printf("%" PRIu32 "\n", lw_trailing_ones(marks));
+    return true;
+}
+
 static bool call_slots(struct program *program, const struct word *words)
 {
     (void)words;
@@ -442,9 +465,9 @@ static const struct command {
     {"card", 5, call_card},     {"host", 3, call_host},       {"open", 3, call_open},
     {"add", 3, call_add},       {"seal", 0, call_seal},       {"read", 1, call_read},
     {"show", 1, call_show},     {"choose", 1, call_choose},   {"receive", 1, call_receive},
-    {"layout", 1, call_layout}, {"class", 1, call_class},     {"slots", 0, call_slots},
-    {"memory", 0, call_memory}, {"state", 0, call_state},     {"store", 1, call_store},
-    {"restore", 1, call_restore},
+    {"layout", 1, call_layout}, {"class", 1, call_class},     {"marks", 1, call_marks},
+    {"slots", 0, call_slots},   {"memory", 0, call_memory},   {"state", 0, call_state},
+    {"store", 1, call_store},   {"restore", 1, call_restore},
 };
 
 /* Does what the line says and writes the answer; false if it is of no form. */

@@ -465,6 +465,34 @@ static void check_classes(void)
     end_group("classes of huge numbers");
 }
 
+/* Bit by bit, as the rule says it. */
+static uint32_t counted_one_by_one(uint64_t marks)
+{
+    uint32_t count = 0;
+
+    while (count < 64 && (marks >> count & 1) == 1)
+        count++;
+    return count;
+}
+
+static void check_marks(void)
+{
+    check("no mark is clear", 64, lw_trailing_ones(UINT64_MAX), 64);
+    check("none is set", 0, lw_trailing_ones(0), 0);
+    for (uint32_t first = 0; first < 64; first++) {
+        const uint64_t clear = (uint64_t)1 << first;
+        check("one is clear", first, lw_trailing_ones(~clear), first);
+        check("all below are set", first, lw_trailing_ones(clear - 1), first);
+        check("one is set", first, lw_trailing_ones(clear), first == 0);
+        for (uint32_t second = 0; second < 64; second++) {
+            const uint64_t marks = ~clear & ~((uint64_t)1 << second);
+            check("two are clear", first * 64 + second, lw_trailing_ones(marks),
+                  counted_one_by_one(marks));
+        }
+    }
+    end_group("counts of marks");
+}
+
 int main(void)
 {
     /* A fault inside the library must not swallow the lines before it. */
@@ -484,6 +512,7 @@ int main(void)
     check_only_lent_bytes();
     check_huge_length();
     check_classes();
+    check_marks();
 
     return end_checks();
 }

@@ -129,6 +129,12 @@ static inline const char *lw_refusal_name(uint32_t number)
     }
 }
 
+/* ---- Marks ------------------------------------------------------------- */
+
+/* Of 64 marks: how many from bit 0 on are set before the first clear one, and 64
+ * if none is clear. By that count a host's window of frames moves, once. */
+uint32_t lw_trailing_ones(uint64_t marks);
+
 /* ---- Sizes and objects ------------------------------------------------- */
 
 #define LW_FRAME_HEADER 10    /* bytes of a frame header */

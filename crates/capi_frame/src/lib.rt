@@ -1,7 +1,9 @@
-// What a C program is offered: reading a frame's layout and asking a refusal's class. Assumes of a caller that a
-// slice's pointer and length are right (include/logwhisker.h). It promises one number a call, over any bytes, as
-// specs/Numbers.antt, wire_layout/specs/Layout.antt and wire/specs/Reading.antt say.
+// What a C program is offered: reading a frame's layout, asking a refusal's class, and counting marks. Assumes of a
+// caller that a slice's pointer and length are right (include/logwhisker.h). It promises one number a call, over any
+// bytes, as specs/Numbers.antt, wire_layout/specs/Layout.antt and wire/specs/Reading.antt say.
+use bitmap::word64;
 ghost use mathlib.Core.Path.{_≡_};
+ghost use Rattle.bitmap.specs.Marks.{trailingOnes};
 ghost use Rattle.refusal.specs.Class.{classOf, classNumber};
 ghost use Rattle.wire.specs.Reading.{destination, source, number, ackStart, ackCount, flags};
 ghost use Rattle.wire_layout.specs.Layout.{numberOf, messagesOf, bytesOf, unlessRefused};
@@ -80,4 +82,12 @@ pub extern "C" fn lw_refusal_class(refusal: u32) -> u32
     ensures { λ r. ⌜ r ≡ classNumber (classOf refusal) ⌝ }
 {
     refusal::class_number(refusal::class_of(refusal))
+}
+
+// Of 64 marks, how many from bit 0 on are set before the first clear one; 64 if none is clear.
+#[no_mangle]
+pub extern "C" fn lw_trailing_ones(marks: u64) -> u32
+    ensures { λ r. ⌜ r ≡ trailingOnes 64 marks ⌝ }
+{
+    word64::trailing_ones(marks)
 }

@@ -132,6 +132,12 @@ extern "C" fn plain_choose(card: &Card, slots: &[u8], lent: &[u8], part: &mut [u
     card.choose(slots, lent, part)
 }
 
+/// The run of set marks that a word begins with.
+#[inline(never)]
+pub extern "C" fn plain_marks(marks: u64) -> u32 {
+    marks.trailing_ones()
+}
+
 impl CardEnd for Card {
     fn fresh(limit: usize, slots: &[u8]) -> Card {
         Card::open(2, 1, limit, slots).expect("the slots fit the limit")

@@ -1,7 +1,7 @@
 //! Both ends of a DG/RDMA pair over the proved static library: a charging [`Host`], a
-//! [`Card`], the layout of a frame and the refusals. Nothing is allocated and nothing is
-//! kept between calls but the words that each end owns; what a call reads or writes is
-//! lent to it.
+//! [`Card`], the layout of a frame, the refusals, and the count of marks by which a
+//! window moves. Nothing is allocated and nothing is kept between calls but the words
+//! that each end owns; what a call reads or writes is lent to it.
 //!
 //! ```
 //! use logwhisker::{Answer, Card, Chosen, Host};
@@ -40,6 +40,7 @@ pub use layout::{
     message_count, source,
 };
 pub use plain::PlainHost;
+pub use raw::trailing_ones;
 pub use refusal::{Class, Refusal, refusal_class};
 pub use replay::{Replay, Totals};
 

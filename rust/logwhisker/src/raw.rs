@@ -145,8 +145,9 @@ mod exported {
         pub fn lw_flags(frame: *const u8, length: usize) -> u32;
         pub fn lw_message_count(frame: *const u8, length: usize) -> u32;
         pub fn lw_data_bytes(frame: *const u8, length: usize) -> u32;
-        // Takes a number and answers one, so nothing can go wrong in calling it.
+        // These take a number and answer one, so nothing can go wrong in calling them.
         pub safe fn lw_refusal_class(number: u32) -> u32;
+        pub safe fn lw_trailing_ones(marks: u64) -> u32;
     }
 }
 
@@ -447,4 +448,10 @@ of_frame! {
 #[inline]
 pub fn refusal_class(number: u32) -> u32 {
     exported::lw_refusal_class(number)
+}
+
+/// How many of 64 marks, from bit 0 on, are set before the first clear one.
+#[inline]
+pub fn trailing_ones(marks: u64) -> u32 {
+    exported::lw_trailing_ones(marks)
 }

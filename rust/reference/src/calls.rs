@@ -5,6 +5,7 @@
 use crate::demand::UNWRITTEN;
 use crate::ends::{CardEnd, Ends, HostEnd, Start};
 use crate::host::{Answer, Host};
+use crate::marks;
 use crate::refusal::{self, Class};
 use crate::wire;
 use line::Line;
@@ -98,6 +99,7 @@ impl<E: Ends> Program<E> {
             }
             Line::Layout(frame) => layout(&frame),
             Line::Class(number) => class(number).to_string(),
+            Line::Marks(marks) => marks::count(marks).to_string(),
             Line::Slots => digest(&self.slots),
             Line::Memory => digest(&self.memory),
             Line::State => state(self.host.host()),

@@ -14,6 +14,7 @@ pub mod ends;
 pub mod faults;
 pub mod host;
 pub mod list;
+pub mod marks;
 pub mod premises;
 pub mod refusal;
 pub mod replay;

@@ -106,6 +106,8 @@ fn the_stored_script_has_every_refusal_and_answer() {
         ("class", "caller"),
         ("class", "card"),
         ("class", "none"),
+        ("marks", "0"),
+        ("marks", "64"),
         ("slots", ""),
         ("memory", ""),
         ("state", "own "),

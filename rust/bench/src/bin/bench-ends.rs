@@ -3,7 +3,7 @@
 //! the turns. What both give is compared before anything is timed. Build it with the profile
 //! `bench-release`, which leaves out the checks that tests run with.
 
-use bench::ends::{CardEnd, HostEnd};
+use bench::ends::{CardEnd, HostEnd, plain_marks};
 use bench::plain;
 use bench::shapes::{MEMORY, SHAPES, Shape};
 use bench::steps::{SLOTS, STEPS, Steps};
@@ -37,6 +37,7 @@ fn main() {
     for (name, steps) in STEPS {
         time_card(name, steps);
     }
+    time_marks();
 }
 
 /// Something to be timed: a turn, which gives a sum of what it got.
@@ -163,6 +164,41 @@ fn time_card(name: &str, steps: Steps) {
     time(
         &format!("card, {name}"),
         steps.times(),
+        TURNS_OF_STEPS,
+        None,
+        &mut timed,
+    );
+}
+
+/// Counts the set marks that words begin with, of all lengths, without a pattern.
+fn time_marks() {
+    let words: Vec<u64> = (0u64..4_096)
+        .map(|place| !(1u64 << (place.wrapping_mul(2_654_435_761) >> 7) % 64))
+        .collect();
+    let words = words.as_slice();
+    // Through a pointer, since the proved one is called through the linker's table.
+    let plain_marks: extern "C" fn(u64) -> u32 = black_box(plain_marks);
+    let plain = move || {
+        black_box(words)
+            .iter()
+            .map(|word| u64::from(plain_marks(*word)))
+            .sum()
+    };
+    let mut timed: Vec<Turn> = vec![Box::new(plain)];
+    #[cfg(feature = "proved")]
+    {
+        use logwhisker::raw::trailing_ones;
+        let proved = move || {
+            black_box(words)
+                .iter()
+                .map(|word| u64::from(trailing_ones(*word)))
+                .sum()
+        };
+        timed.push(Box::new(proved));
+    }
+    time(
+        "marks, the run of a word",
+        words.len(),
         TURNS_OF_STEPS,
         None,
         &mut timed,

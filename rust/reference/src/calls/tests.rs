@@ -19,10 +19,11 @@ fn before_any_opening() {
         "choose -",
         "open 0 0 0",
         "class 13",
+        "marks 18446744073709551615",
     ];
     let state = "own 0 peer 0 next 0 marks 0000000000000000 lowest 0 closed 00000000";
     let empty = "cbf29ce484222325";
-    let expected = [empty, empty, state, "R 26", "R 26", "t 0", "caller"];
+    let expected = [empty, empty, state, "R 26", "R 26", "t 0", "caller", "64"];
     assert_eq!(answers(&lines), expected);
 }
 
@@ -70,7 +71,7 @@ fn lines_of_no_form_change_nothing() {
     program.line(b"card 2 1 34 2176 0");
     program.line(b"host 1 2 100");
     let long = [b"receive ".to_vec(), vec![b'0'; LONGEST_LINE - 7]].concat();
-    let bad: [&[u8]; 30] = [
+    let bad: [&[u8]; 33] = [
         b"",
         b" ",
         b"seal ",
@@ -100,6 +101,9 @@ fn lines_of_no_form_change_nothing() {
         b"card 2 1 34 2176",
         b"host 1 2 1048577",
         b"class 4294967296",
+        b"marks 18446744073709551616",
+        b"marks",
+        b"marks -",
         &long,
     ];
     for line in bad {

@@ -129,6 +129,7 @@ impl Wild {
             7 => return self.no_form(),
             8 => self.store(),
             9 => self.restore(),
+            10 => format!("marks {}", self.any_marks()),
             _ => match &mut self.episode {
                 Episode::Guided(traffic) => {
                     let line = traffic.next_line().text;
@@ -370,8 +371,20 @@ impl Wild {
         }
     }
 
+    /// Set marks below a place, and above it any, or all but one.
+    fn any_marks(&mut self) -> u64 {
+        let below = u64::MAX
+            .checked_shl(self.rng.below(65) as u32)
+            .map_or(u64::MAX, |above| !above);
+        match self.rng.below(3) {
+            0 => below,
+            1 => below | self.rng.next_u64(),
+            _ => !(1 << self.rng.below(64)),
+        }
+    }
+
     fn no_form(&mut self) -> Vec<u8> {
-        let lines: [&[u8]; 28] = [
+        let lines: [&[u8]; 29] = [
             b"",
             b" ",
             b"seal ",
@@ -400,6 +413,7 @@ impl Wild {
             b"restore 0",
             b"restore",
             b"class \xff",
+            b"marks 18446744073709551616",
         ];
         self.rng.pick(&lines).to_vec()
     }
