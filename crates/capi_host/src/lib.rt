@@ -7,9 +7,15 @@ ghost use lib.ListN.{getD};
 ghost use Rattle.host.specs.Host.{answerWords, answerOf};
 ghost use Rattle.host_receive.specs.Receiving.{LeavesWords};
 ghost use Rattle.host_describe.specs.Describing.{description as descriptionOf};
-ghost use Rattle.host_stored.specs.Form.{storedOf, bufferOf, readText};
 ghost use Rattle.host_words.specs.Words.{pairOf};
-ghost use Rattle.logwhisker.specs.Face.{hostOpened, received, acknowledged};
+ghost use Rattle.logwhisker.specs.Face.{
+  hostOpened,
+  received,
+  acknowledged,
+  hostStored,
+  bufferFilled,
+  hostRestored,
+};
 ghost use Rattle.capi_host.specs.Words.{dueNumber, writtenWhereDue};
 
 // Opens a host: 0, or 13 where an ID is 0.
@@ -87,9 +93,9 @@ pub extern "C" fn lw_raw_host_describe(words: &[u64; 67], description: &mut [u64
 // Stores a host's pair as text: 0 and the text's length, or 13 or 19 and 0.
 #[no_mangle]
 pub extern "C" fn lw_raw_host_store(words: &[u64; 67], text: &mut [u8], length: &mut usize) -> u32
-    ensures { λ r. ⌜ r ≡ storedOf (pairOf (now (words .entry))) (now (text .entry)) .refusal ⌝ }
-    ensures { λ _. ⌜ now (text .exit) ≡ bufferOf (pairOf (now (words .entry))) (now (text .entry)) ⌝ }
-    ensures { λ _. ⌜ now (length .exit) ≡ storedOf (pairOf (now (words .entry))) (now (text .entry)) .length ⌝ }
+    ensures { λ r. ⌜ r ≡ hostStored (now (words .entry)) (now (text .entry)) .refusal ⌝ }
+    ensures { λ _. ⌜ now (text .exit) ≡ bufferFilled (now (words .entry)) (now (text .entry)) ⌝ }
+    ensures { λ _. ⌜ now (length .exit) ≡ hostStored (now (words .entry)) (now (text .entry)) .length ⌝ }
 {
     let stored = logwhisker::store_host(words, text);
     *length = stored.length;
@@ -99,8 +105,8 @@ pub extern "C" fn lw_raw_host_store(words: &[u64; 67], text: &mut [u8], length: 
 // Reads a host's pair back from its text: 0, or 15.
 #[no_mangle]
 pub extern "C" fn lw_raw_host_restore(words: &mut [u64; 67], text: &[u8]) -> u32
-    ensures { λ r. ⌜ r ≡ readText (now (text .entry)) .refusal .number ⌝ }
-    ensures { λ _. ⌜ pairOf (now (words .exit)) ≡ readText (now (text .entry)) .pair ⌝ }
+    ensures { λ r. ⌜ r ≡ hostRestored (now (text .entry)) .refusal .number ⌝ }
+    ensures { λ _. ⌜ pairOf (now (words .exit)) ≡ hostRestored (now (text .entry)) .pair ⌝ }
 {
     logwhisker::restore_host(words, text) as u32
 }

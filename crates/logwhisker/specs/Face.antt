@@ -1,5 +1,5 @@
 -- What the library's functions answer and leave, said by the very ends that the theorem of delivery is about: each line
--- is a field of `specifiedHost` or `specifiedCard`, on the pair or the card that the lent words hold.
+-- is a field of `specifiedHost`, `specifiedCard` or `specifiedStore`, on the pair or the card that the lent words hold.
 use Prim.Native.Nat.{ℕ}
 use mathlib.Core.Path.{_≡_}
 use mathlib.Core.Logic.{_≢_}
@@ -10,7 +10,9 @@ use Rattle.host.specs.declared.Acknowledgement.{Acknowledgement}
 use Rattle.host.specs.Host.{Received}
 use Rattle.host_words.specs.Words.{pairOf}
 use Rattle.card_words.specs.Words.{cardOf}
+use Rattle.host_stored.specs.declared.Stored.{Stored}
 use Rattle.delivery.specs.System.{CardResult, specifiedCard, specifiedHost}
+use Rattle.delivery_restarts.specs.Restarts.{specifiedStore}
 
 -- ---- the host
 
@@ -22,6 +24,17 @@ received words frame memory = specifiedHost .receiving (pairOf words) frame memo
 
 abbrev pub acknowledged : List ℕ → Answer → ℕ → Acknowledgement
 acknowledged words answer number = specifiedHost .acknowledging (pairOf words) answer number
+
+-- Storing into a lent buffer, the buffer after it, and reading a text: the store that the theorem over restarts is
+-- about.
+abbrev pub hostStored : List ℕ → List ℕ → Stored
+hostStored words buffer = specifiedStore .storing (pairOf words) buffer
+
+abbrev pub bufferFilled : List ℕ → List ℕ → List ℕ
+bufferFilled words buffer = specifiedStore .filling (pairOf words) buffer
+
+abbrev pub hostRestored : List ℕ → Opened
+hostRestored text = specifiedStore .restoring text
 
 -- ---- the card
 

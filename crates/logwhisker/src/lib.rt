@@ -42,7 +42,6 @@ ghost use Rattle.card.specs.Card.{openTransaction, sealFrame};
 ghost use Rattle.host.specs.Host.{steppedOf, answerOf};
 ghost use Rattle.host_receive.specs.Receiving.{LeavesWords};
 ghost use Rattle.host_describe.specs.Describing.{description};
-ghost use Rattle.host_stored.specs.Form.{storedOf, bufferOf, readText};
 ghost use Rattle.delivery.specs.System.{specifiedHost};
 ghost use Rattle.card_show.specs.Parts.{shownPart};
 ghost use Rattle.card_choose.specs.Choices.{chosenPart};
@@ -50,6 +49,9 @@ ghost use Rattle.logwhisker.specs.Face.{
   hostOpened,
   received,
   acknowledged,
+  hostStored,
+  bufferFilled,
+  hostRestored,
   cardOpened,
   transactionOpened,
   messageAdded,
@@ -112,8 +114,8 @@ pub fn describe_host(words: &[u64; 67]) -> [u64; 167]
 // Stores a host's pair as text from the start of a lent buffer on, and gives the text's length; 13 where an ID is 0,
 // then 19 where the buffer is shorter than the text.
 pub fn store_host(words: &[u64; 67], buffer: &mut [u8]) -> Stored
-    ensures { λ r. ⌜ r ≡ storedOf (pairOf (now (words .entry))) (now (buffer .entry)) ⌝ }
-    ensures { λ _. ⌜ now (buffer .exit) ≡ bufferOf (pairOf (now (words .entry))) (now (buffer .entry)) ⌝ }
+    ensures { λ r. ⌜ r ≡ hostStored (now (words .entry)) (now (buffer .entry)) ⌝ }
+    ensures { λ _. ⌜ now (buffer .exit) ≡ bufferFilled (now (words .entry)) (now (buffer .entry)) ⌝ }
 {
     host_store::store(words, buffer)
 }
@@ -121,8 +123,8 @@ pub fn store_host(words: &[u64; 67], buffer: &mut [u8]) -> Stored
 // Reads a host's pair back from its text; 15 where no pair has that text, and then the host is a fresh one with both
 // IDs 0.
 pub fn restore_host(words: &mut [u64; 67], text: &[u8]) -> u8
-    ensures { λ r. ⌜ r ≡ readText (now (text .entry)) .refusal .number ⌝ }
-    ensures { λ _. ⌜ pairOf (now (words .exit)) ≡ readText (now (text .entry)) .pair ⌝ }
+    ensures { λ r. ⌜ r ≡ hostRestored (now (text .entry)) .refusal .number ⌝ }
+    ensures { λ _. ⌜ pairOf (now (words .exit)) ≡ hostRestored (now (text .entry)) .pair ⌝ }
 {
     host_restore::restore(words, text)
 }
