@@ -1,8 +1,8 @@
 // The library's face: what a caller in Rattle uses. Both ends in place over words that the caller lends, and the host
 // by value; the plain host; a frame's layout; a refusal's class; the count by which a window moves; the replay from
-// fragments. Assumes nothing: any words are a state, and any bytes get an answer. It promises what specs/Face.antt says,
-// which is what the theorem of the crate delivery is about; what it passes on promises by the definitions of its own
-// crate.
+// fragments. Assumes nothing: any words are a state, and any bytes get an answer. It promises what specs/Face.antt
+// says, which is what the theorems of the crates delivery and delivery_restarts are about; what it passes on promises
+// by the definitions of its own crate.
 pub use bitmap::word64::trailing_ones;
 pub use card_choose::Choice;
 pub use card_number::OpenedTransaction;
