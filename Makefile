@@ -31,12 +31,15 @@ test:
 check:
 	rt check
 
-# Proves, builds and runs the replay on a sample capture, or on FRAMES=file.
+# Proves, builds and runs the replay on a sample capture, or on FRAMES=file; with PLAIN=1 its sister, which runs the
+# plain host.
+REPLAY := $(if $(filter 1,$(PLAIN)),replay_plain,replay)
+
 replay:
 	@mkdir -p target
-	@[ -x target/bin/replay ] || echo 'make replay: proves the replay and all below it first, which takes some minutes' >&2
-	@rt check replay > target/replay.log 2>&1 || { cat target/replay.log; exit 1; }
-	@target/bin/replay < $(FRAMES)
+	@[ -x target/bin/$(REPLAY) ] || echo 'make replay: proves the replay and all below it first, which takes some minutes' >&2
+	@rt check $(REPLAY) > target/replay.log 2>&1 || { cat target/replay.log; exit 1; }
+	@target/bin/$(REPLAY) < $(FRAMES)
 
 # Proves and builds the library for C: target/staticlib/liblogwhisker.a.
 library: $(LIBRARY)
@@ -69,6 +72,7 @@ bench:
 # implementation ten times as long, from SEED=number on. It needs 1 GB of disk below target/.
 soak:
 	rt check replay
+	rt check replay_plain
 	$(MAKE) library calls
 	cd rust && cargo test --offline --locked --release -p logwhisker --test streams -- --include-ignored --nocapture
 	cd rust && LW_SEED=$(SEED) LW_INPUTS=12000000 LW_FRAMES=4000000 LW_LINES=20000000 LW_SCRIPTS=240 \

@@ -232,7 +232,7 @@ def equates_result(function, relations, structs, lets_off):
         return True
     said = [(r, left) for r, left, right in function.equations() if r != "_" and is_given(right, r)]
     fields = structs.get(function.result, [])
-    each = [any(left == f"{r} .{field}" for r, left in said) for field in fields]
+    each = [any(is_left(left, f"({r} .{field})", [f"{r} .{field}"]) for r, left in said) for field in fields]
     return any(is_left(left, r, []) for r, left in said) or (fields != [] and all(each))
 
 

@@ -662,7 +662,7 @@ NAMED = {
     "seq": "ground", "bitmap": "ground", "octets": "ground", "refusal": "ground", "hex_fields": "ground", "delivery": "theorem", "edges": "theorem",
     "logwhisker": "face", "hex": "text", "bytes": "kit", "io": "kit", "libc": "kit", "os": "kit",
 }
-PROGRAMS = {"replay"}
+PROGRAMS = {"replay", "replay_plain"}
 
 # Where a floor is drawn: left, right, row from above. A row is as high as its fullest floor.
 BANDS = {

@@ -1,6 +1,7 @@
-//! Runs the proved replay program and compares all it writes with the independent
-//! one. `LW_SEED` and `LW_LINES` choose the seed and the number of generated lines,
-//! `LW_REPLAY` another program; a difference is shown with the line that made it.
+//! Runs the proved replay program and its sister, which runs the plain host, and
+//! compares all that both write with the independent one. `LW_SEED` and `LW_LINES`
+//! choose the seed and the number of generated lines, `LW_REPLAY` and
+//! `LW_REPLAY_PLAIN` other programs; a difference is shown with the line that made it.
 
 mod faulty_host;
 mod programs;
@@ -23,7 +24,9 @@ use std::time::{Duration, Instant};
 
 const DEFAULT_SEED: u64 = 1;
 const DEFAULT_LINES: u64 = 2_000_000;
-/// Lines of one run of the program: several times all frame numbers, and fewer than
+/// The program and its sister.
+const PROGRAMS: [&str; 2] = ["replay", "replay_plain"];
+/// Lines of one run of a program: several times all frame numbers, and fewer than
 /// it reads.
 const RUN: u64 = 500_000;
 /// Bytes handed to the program at once.
@@ -39,8 +42,8 @@ struct Running {
 }
 
 impl Running {
-    fn start() -> Running {
-        let (child, mut stdin, mut stdout) = programs::start("replay");
+    fn start(program: &str) -> Running {
+        let (child, mut stdin, mut stdout) = programs::start(program);
         let (input, chunks) = sync_channel::<Vec<u8>>(16);
         let writer = thread::spawn(move || chunks.iter().try_for_each(|c| stdin.write_all(&c)));
         let reader = thread::spawn(move || {
@@ -80,20 +83,25 @@ fn check(status: ExitStatus) {
     assert!(status.success(), "the program ended with {status}");
 }
 
-/// What the program writes for this input.
+/// What both programs write for this input, which must be the same.
 fn output_of(input: &[u8]) -> String {
-    let running = Running::start();
-    for chunk in input.chunks(CHUNK) {
-        running.feed(chunk.to_vec());
-    }
-    text(running.finish())
+    let [first, sister] = PROGRAMS.map(|program| {
+        let running = Running::start(program);
+        for chunk in input.chunks(CHUNK) {
+            running.feed(chunk.to_vec());
+        }
+        text(running.finish())
+    });
+    let differs = first_difference(first.as_bytes(), sister.as_bytes());
+    assert_eq!(differs, None, "the programs differ in this line");
+    first
 }
 
 fn text(output: Vec<u8>) -> String {
     String::from_utf8(output).expect("the program writes plain letters and digits")
 }
 
-/// Compares the program with the independent one on one input.
+/// Compares both programs with the independent one on one input.
 fn assert_same(input: &[u8]) {
     let got = output_of(input);
     let expected = replay::output(input);
@@ -205,7 +213,7 @@ fn seed_of_run(seed: u64, run: u64) -> u64 {
 }
 
 #[test]
-fn program_agrees_with_the_reference_on_generated_lines() {
+fn programs_agree_with_the_reference_on_generated_lines() {
     let seed = number_from_env("LW_SEED", DEFAULT_SEED);
     let lines = count_from_env("LW_LINES", DEFAULT_LINES);
     let mut tally = Tally::default();
@@ -228,7 +236,10 @@ fn compare_run(seed: u64, run: u64, lines: u64, tally: &mut Tally) {
     let mut traffic = Traffic::new(run_seed, kind);
     let mut reference = Replay::new();
     let mut expected = Vec::new();
-    let running = Running::start();
+    let running = PROGRAMS.map(|program| (program, Running::start(program)));
+    let feed_all = |chunk: Vec<u8>| {
+        running.iter().for_each(|(_, at)| at.feed(chunk.clone()));
+    };
     let mut chunk = Vec::new();
     for index in 0..lines {
         let line = traffic.next_line();
@@ -250,13 +261,19 @@ fn compare_run(seed: u64, run: u64, lines: u64, tally: &mut Tally) {
             chunk.push(b'\n');
         }
         if chunk.len() >= CHUNK {
-            running.feed(std::mem::take(&mut chunk));
+            feed_all(std::mem::take(&mut chunk));
         }
     }
-    running.feed(chunk);
+    feed_all(chunk);
     writeln!(expected, "{}", reference.totals()).expect("memory takes any text");
-    let got = running.finish();
-    if let Some(index) = first_difference(&got, &expected) {
+    for (program, at_work) in running {
+        check_output(program, &at_work.finish(), &expected, run_seed, kind);
+    }
+}
+
+/// Shows the line where what a program has written for a run is not what is expected.
+fn check_output(program: &str, got: &[u8], expected: &[u8], run_seed: u64, kind: Kind) {
+    if let Some(index) = first_difference(got, expected) {
         let line_of = |output: &[u8]| {
             let line = output.split(|byte| *byte == b'\n').nth(index);
             String::from_utf8_lossy(line.unwrap_or(b"")).into_owned()
@@ -265,10 +282,10 @@ fn compare_run(seed: u64, run: u64, lines: u64, tally: &mut Tally) {
         traffic.text(index);
         let line = traffic.next_line();
         panic!(
-            "seed {run_seed}, {kind:?}, line {index}, family '{}': {:?} instead of {:?} for {}",
+            "{program}: seed {run_seed}, {kind:?}, line {index}, family '{}': {:?} instead of {:?} for {}",
             line.family,
-            line_of(&got),
-            line_of(&expected),
+            line_of(got),
+            line_of(expected),
             line.text.escape_ascii()
         );
     }
@@ -352,8 +369,12 @@ fn every_byte_in_every_place_of_a_byte() {
 /// Pipes may bring any number of bytes at a time.
 #[test]
 fn byte_by_byte() {
+    PROGRAMS.into_iter().for_each(in_small_pieces);
+}
+
+fn in_small_pieces(program: &str) {
     let input = Traffic::new(11, Kind::Guided).text(40);
-    let running = Running::start();
+    let running = Running::start(program);
     for (index, byte) in input.iter().enumerate() {
         running.feed(vec![*byte]);
         // Long enough for the program to have read it, at least for some lines.
@@ -365,7 +386,7 @@ fn byte_by_byte() {
 
     let mut rng = reference::rng::Rng::new(12);
     let input = Traffic::new(13, Kind::Network).text(3_000);
-    let running = Running::start();
+    let running = Running::start(program);
     let mut rest = &input[..];
     while !rest.is_empty() {
         let (piece, later) = rest.split_at(rng.between(1, 700).min(rest.len()));
@@ -380,12 +401,14 @@ fn input_from_a_file() {
     let path = Path::new(env!("CARGO_TARGET_TMPDIR")).join("replay-input");
     let input = Traffic::new(14, Kind::Guided).text(5_000);
     fs::write(&path, &input).expect("the folder is there for tests to write to");
-    let output = Command::new(programs::path("replay"))
-        .stdin(File::open(&path).expect("it was written"))
-        .output()
-        .expect("the program starts");
-    check(output.status);
-    assert_eq!(text(output.stdout), replay::output(&input));
+    for program in PROGRAMS {
+        let output = Command::new(programs::path(program))
+            .stdin(File::open(&path).expect("it was written"))
+            .output()
+            .expect("the program starts");
+        check(output.status);
+        assert_eq!(text(output.stdout), replay::output(&input));
+    }
 }
 
 #[test]
@@ -409,10 +432,14 @@ fn nothing_is_read_after_a_million_lines() {
     }
 }
 
-/// The program must not wait for a line that it will not answer.
+/// A program must not wait for a line that it will not answer.
 #[test]
 fn it_ends_after_a_million_lines_though_the_pipe_stays_open() {
-    let mut running = Running::start();
+    PROGRAMS.into_iter().for_each(ends_by_itself);
+}
+
+fn ends_by_itself(program: &str) {
+    let mut running = Running::start(program);
     running.feed(vec![b'\n'; MOST_LINES as usize]);
     let start = Instant::now();
     let status = loop {
@@ -444,7 +471,7 @@ fn sums_pass_32_bits() {
         data_address: 0,
         data: &data[..length],
     };
-    let running = Running::start();
+    let running = Running::start("replay");
     let mut reference = Replay::new();
     let mut expected = Vec::new();
     let messages = [message(0, 4_096), message(1, 4_096), message(2, 726)];

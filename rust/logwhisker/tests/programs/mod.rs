@@ -12,9 +12,13 @@ pub fn path(name: &str) -> PathBuf {
     let path = Path::new(env!("CARGO_MANIFEST_DIR"))
         .join("../../target/bin")
         .join(name);
+    let made_by = match name {
+        "replay_plain" => "replay PLAIN=1",
+        name => name,
+    };
     assert!(
         path.is_file(),
-        "{} is absent. Make it with `make {name}` in the root of the repository, then run this again.",
+        "{} is absent. Make it with `make {made_by}` in the root of the repository, then run this again.",
         path.display()
     );
     path
