@@ -1,7 +1,8 @@
 //! The programs where their input or output ends, fails or waits. Whatever goes wrong
 //! is said on standard error, nothing hangs, and the replay writes its totals only
-//! where all was read and written. `LW_REPLAY` and `LW_CALLS` choose other programs;
-//! what takes long is left to `make soak`.
+//! where all was read and written, and so does its sister, which runs the plain host.
+//! `LW_REPLAY`, `LW_REPLAY_PLAIN` and `LW_CALLS` choose other programs; what takes long
+//! is left to `make soak`.
 
 mod programs;
 
@@ -22,6 +23,8 @@ use std::thread;
 use std::time::{Duration, Instant};
 
 const SIGPIPE: i32 = 13;
+/// The replay and its sister.
+const REPLAYS: [&str; 2] = ["replay", "replay_plain"];
 
 /// The program under a shell that redirects its streams.
 fn start(name: &str, redirections: &str) -> Child {
@@ -57,9 +60,11 @@ fn many_lines() -> Vec<u8> {
 
 #[test]
 fn no_input() {
-    let output = run("replay", "</dev/null", b"");
-    assert_eq!(text(&output.stdout), "T 0 0 0\n");
-    assert_eq!(text(&output.stderr), "");
+    for name in REPLAYS {
+        let output = run(name, "</dev/null", b"");
+        assert_eq!(text(&output.stdout), "T 0 0 0\n", "{name}");
+        assert_eq!(text(&output.stderr), "", "{name}");
+    }
     let output = run("calls", "</dev/null", b"");
     assert_eq!(text(&output.stdout), "");
     assert_eq!(text(&output.stderr), "");
@@ -67,8 +72,12 @@ fn no_input() {
 
 #[test]
 fn input_that_cannot_be_read() {
-    // The replay says which call failed, the C program its own name.
-    for (name, who) in [("replay", "read"), ("calls", "calls")] {
+    // A replay says which call failed, the C program its own name.
+    for (name, who) in REPLAYS
+        .map(|name| (name, "read"))
+        .into_iter()
+        .chain([("calls", "calls")])
+    {
         for (redirections, what) in [("<&-", "Bad file descriptor"), ("</", "Is a directory")] {
             let output = run(name, redirections, b"");
             assert_eq!(text(&output.stderr), format!("{who}: {what}\n"), "{name}");
@@ -85,9 +94,11 @@ fn output_that_cannot_be_written() {
         (">&-", "Bad file descriptor"),
     ] {
         for input in [b"".to_vec(), b"00\n".to_vec(), many_lines()] {
-            let output = run("replay", redirections, &input);
-            let said = format!("write: {what}\n");
-            assert_eq!(text(&output.stderr), said, "{} bytes", input.len());
+            for name in REPLAYS {
+                let output = run(name, redirections, &input);
+                let said = format!("write: {what}\n");
+                assert_eq!(text(&output.stderr), said, "{name}: {} bytes", input.len());
+            }
         }
         let output = run("calls", redirections, b"seal\n");
         assert_eq!(text(&output.stderr), format!("calls: {what}\n"));
@@ -98,13 +109,17 @@ fn output_that_cannot_be_written() {
 /// the answers, and the failure is said.
 #[test]
 fn output_that_is_cut_off() {
+    REPLAYS.into_iter().for_each(cut_off);
+}
+
+fn cut_off(name: &str) {
     let path = env::temp_dir().join(format!("logwhisker-streams-{}", std::process::id()));
     let input = many_lines();
     let whole = replay::output(&input);
     // `ulimit -f` counts in blocks of 512 bytes; the signal for a file that grows past it is ignored.
     let mut child = Command::new("sh")
         .args(["-c", "trap '' XFSZ; ulimit -f 256; exec \"$0\" >\"$1\""])
-        .arg(programs::path("replay"))
+        .arg(programs::path(name))
         .arg(&path)
         .stdin(Stdio::piped())
         .stderr(Stdio::piped())
@@ -125,7 +140,7 @@ fn output_that_is_cut_off() {
 /// A reader that goes away ends the program, as it ends others.
 #[test]
 fn reader_that_goes_away() {
-    for name in ["replay", "calls"] {
+    for name in REPLAYS.into_iter().chain(["calls"]) {
         let mut child = start(name, "");
         drop(child.stdout.take());
         let mut stdin = child.stdin.take().expect("it is piped");
@@ -146,8 +161,12 @@ fn reader_that_goes_away() {
 /// A reader that waits until both pipes are full loses nothing.
 #[test]
 fn reader_that_waits() {
+    REPLAYS.into_iter().for_each(waited_for);
+}
+
+fn waited_for(name: &str) {
     let input = many_lines();
-    let mut child = start("replay", "");
+    let mut child = start(name, "");
     let mut stdin = child.stdin.take().expect("it is piped");
     let mut stdout = child.stdout.take().expect("it is piped");
     let whole = replay::output(&input);
@@ -176,9 +195,15 @@ fn reader_that_waits() {
 fn binary_input() {
     for seed in 0..8 {
         let input = Rng::new(seed).bytes(100_000);
-        let output = run("replay", "", &input);
-        assert_eq!(text(&output.stdout), replay::output(&input), "seed {seed}");
-        assert_eq!(text(&output.stderr), "");
+        for name in REPLAYS {
+            let output = run(name, "", &input);
+            assert_eq!(
+                text(&output.stdout),
+                replay::output(&input),
+                "{name}: seed {seed}"
+            );
+            assert_eq!(text(&output.stderr), "");
+        }
         let output = run("calls", "", &input);
         assert_eq!(
             text(&output.stdout),
@@ -225,12 +250,14 @@ fn failing_after(sent: &[u8]) -> File {
 /// had not ended has none, and there are no totals.
 #[test]
 fn input_that_fails_behind_answers() {
-    let output = Command::new(programs::path("replay"))
-        .stdin(failing_after(b"00\n00\n01"))
-        .output()
-        .expect("the program starts");
-    assert_eq!(text(&output.stdout), "R 14\nR 14\n");
-    assert_eq!(text(&output.stderr), "read: Input/output error\n");
+    for name in REPLAYS {
+        let output = Command::new(programs::path(name))
+            .stdin(failing_after(b"00\n00\n01"))
+            .output()
+            .expect("the program starts");
+        assert_eq!(text(&output.stdout), "R 14\nR 14\n", "{name}");
+        assert_eq!(text(&output.stderr), "read: Input/output error\n", "{name}");
+    }
 }
 
 /// A file of 1 GB, from a file and through a pipe, against the independent program.
