@@ -1,5 +1,7 @@
 -- `host_open::open_in_place`: opening by value, put into the words.
 -- Assumes nothing.
+use mathlib.Core.Path.{ap, _∙_}
+use Rattle.host.specs.declared.Opened.{Opened}
 use borrow.Author.Needs.{needs}
 use Rattle.host_open.proofs.open_in_place.Statement.{statement}
 use Rattle.host_open.proofs.open_in_place.Tie as tie
@@ -18,7 +20,12 @@ same-length : tie.Need-same-length
 same-length c = search needs
 
 returns : tie.Need-returns
-returns c = rw (← c .before .before .before .before .open-pair .ensures) (c .before .before .put-opened .ensures)
+returns c =
+    let e = c .before .before .before .before .open-pair .ensures in
+    let k = c .before .before .put-opened .ensures in (
+      λ l. (k .0 l .0 ∙ ap (λ (o : Opened). o .pair) e, k .0 l .1 ∙ ap (λ (o : Opened). o .refusal .number) e),
+      k .1,
+    )
 
 pub open-in-place-spec : {M : Type 1} → statement M
 open-in-place-spec =
