@@ -7,6 +7,9 @@ use host::Open;
 use host::Opened;
 use host::Pair;
 use host::Refusal;
+use host_stored::HEAD;
+use host_stored::OPEN;
+use host_stored::VERSION;
 use host_words::Head;
 use seq::FrameNo;
 use seq::TransNo;
@@ -32,14 +35,6 @@ ghost use Rattle.host_stored.specs.Form.{
 };
 ghost use Rattle.host_restore.specs.Steps.{lineOf, badLines, tableOf};
 ghost use Rattle.host_restore.specs.Restoring.{Restores};
-
-// The version that is read.
-const VERSION: u8 = 1;
-
-// Characters of the first line, and of an open transaction's.
-const HEAD: usize = 47;
-
-const OPEN: usize = 33;
 
 // An open transaction's line: whether it is fine, its number and its entry of the table; zeros where it is not.
 pub struct Line {

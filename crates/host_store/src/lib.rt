@@ -1,7 +1,10 @@
 // Storing the pair that lent words hold, as text in a buffer that the caller lends. Assumes nothing of the words or of
 // the buffer. It promises the answer and every byte of the buffer (host_stored/specs/Form.antt).
 use host::Open;
+use host_stored::HEAD;
+use host_stored::OPEN;
 use host_stored::Stored;
+use host_stored::VERSION;
 ghost use mathlib.Core.Path.{_≡_};
 ghost use mathlib.Core.List.{[], _∷_, _++_};
 ghost use Prim.Native.Nat.{_+_, _*_, _≤_, _<_};
@@ -20,14 +23,6 @@ ghost use Rattle.host_stored.specs.Form.{
 };
 ghost use Rattle.host_words.specs.Words.{pairOf};
 ghost use Rattle.host_store.specs.Lines.{linesAt};
-
-// The version that is written.
-const VERSION: u8 = 1;
-
-// Characters of the first line, and of an open transaction's.
-const HEAD: usize = 47;
-
-const OPEN: usize = 33;
 
 fn digit(d: u8) -> u8
     requires { ⌜ d < 16 ⌝ }
