@@ -93,7 +93,7 @@ $(INSTALLED_LIB): $(LIBRARY) include/logwhisker.h include/logwhisker.pc.in
 	@$(MAKE) --no-print-directory install PREFIX='$(CURDIR)/$(INSTALLED)' DESTDIR=
 	@touch $@
 
-# One archive of the three that the exports give.
+# One archive of those that the exports give.
 $(LIBRARY): $(LIBRARY_SOURCES)
 	for crate in $(EXPORTS); do rt staticlib $$crate || exit 1; done
 	rm -rf target/objects $@

@@ -46,7 +46,7 @@ enum lw_refusal {
     LW_REFUSED_FRAME_TOO_LONG = 2,  /* more than 9,000 bytes */
     LW_REFUSED_WRONG_ID = 3,        /* not to this end, or not from its peer */
     LW_REFUSED_RESERVED_FLAG = 4,   /* a flag bit without a meaning is set */
-    LW_REFUSED_PAST_FRAME_END = 5,  /* a message header or its data passes the frame's end */
+    LW_REFUSED_PAST_FRAME_END = 5,  /* a message's header or data would end past the frame */
     LW_REFUSED_FRAME_AHEAD = 6,     /* 64 to 32,767 past the next frame number */
 
     /* One message of a frame. */
@@ -58,7 +58,7 @@ enum lw_refusal {
     LW_REFUSED_COMPLETION_OUTSIDE_MEMORY = 12, /* the completion would pass the end of memory */
 
     /* What the caller asked for. */
-    LW_REFUSED_ID_ZERO = 13,  /* an end was to be opened with ID 0 */
+    LW_REFUSED_ID_ZERO = 13,  /* an ID is 0: of an end to be opened, or of a host to be stored */
     LW_REFUSED_BAD_LINE = 14, /* a line of the replay is not whole bytes in hexadecimal */
 
     /* A host's stored text. */
@@ -71,10 +71,10 @@ enum lw_refusal {
     LW_REFUSED_BUFFER_SHORT = 19, /* the buffer is shorter than the text */
 
     /* A step of the card. */
-    LW_REFUSED_TRANSACTION_WINDOW_FULL = 20, /* 32 transactions from the lowest unfinished one on */
+    LW_REFUSED_TRANSACTION_WINDOW_FULL = 20, /* the lowest unfinished one and 31 after it were opened */
     LW_REFUSED_FRAME_WINDOW_FULL = 21,       /* 64 sealed frames are not released */
     LW_REFUSED_FRAME_FULL = 22,              /* the message would end past the frame limit: seal first */
-    LW_REFUSED_NO_MESSAGE_LEFT = 23,         /* transaction never opened, or its messages all added */
+    LW_REFUSED_NO_MESSAGE_LEFT = 23,         /* no such transaction, or it has all its messages */
     LW_REFUSED_NOTHING_TO_SEAL = 24,         /* the frame being built has no message */
     LW_REFUSED_NOT_HELD = 25,                /* the frame is not held, or there is nothing to choose */
     LW_REFUSED_BAD_LIMIT_OR_SLOTS = 26,      /* limit not 34 to 9,000, or slots not 64 times as large */
@@ -131,8 +131,8 @@ static inline const char *lw_refusal_name(uint32_t number)
 
 /* ---- Marks ------------------------------------------------------------- */
 
-/* Of 64 marks: how many from bit 0 on are set before the first clear one, and 64
- * if none is clear. By that count a host's window of frames moves, once. */
+/* How many of 64 marks are set below the lowest clear one, bit 0 being the lowest;
+ * 64 without a clear one. By that count a host's window of frames moves, once. */
 uint32_t lw_trailing_ones(uint64_t marks);
 
 /* ---- Sizes and objects ------------------------------------------------- */
@@ -152,21 +152,21 @@ uint32_t lw_trailing_ones(uint64_t marks);
 #define LW_CARD_WORDS 85
 #define LW_PLAIN_WORDS 228
 #define LW_ANSWER_WORDS 8
-#define LW_REPLAY_WORDS 9     /* of a replay\'s place */
-#define LW_REPLAY_MEMORY 4096 /* bytes of a replay\'s memory */
+#define LW_REPLAY_WORDS 9     /* of a replay's place */
+#define LW_REPLAY_MEMORY 4096 /* bytes of a replay's memory */
 #define LW_DESCRIPTION_WORDS 167
 
-/* The charging host's end of a pair. Open it before anything else. */
+/* The charging host's end of a connection. Open it before anything else. */
 typedef struct lw_host {
     uint64_t words[LW_HOST_WORDS];
 } lw_host;
 
-/* The card's end of a pair. Open it before anything else. */
+/* The card's end of a connection. Open it before anything else. */
 typedef struct lw_card {
     uint64_t words[LW_CARD_WORDS];
 } lw_card;
 
-/* The plain host's end of a pair, for tests and audits: it answers as lw_host does,
+/* The plain host's end of a connection, for tests and audits: it answers as lw_host does,
  * and its state may be looked into. Open it before anything else. */
 typedef struct lw_plain {
     uint64_t own, peer;
@@ -323,8 +323,8 @@ static inline uint32_t lw_host_receive(lw_host *host, const uint8_t *frame, size
 }
 
 /* Writes the acknowledgement frame that an answer calls for, to be sent to the
- * peer: it covers the answer's run, all numbers from the frame's on that the host
- * had accepted or had behind it, after this frame took effect. Returns 1 if it is
+ * peer: it covers the answer's run, the numbers from the frame's on, 255 at most, that
+ * the host had accepted or had behind it after this frame took effect. Returns 1 if it is
  * due (accepted, again) and 0 if not; then nothing is written. The number is that
  * of the host's own next message frame, which is not used up: 0 for a host that
  * sends no messages. The host does not change, so that the same answer may be
@@ -348,7 +348,7 @@ static inline void lw_host_describe(const lw_host *host, lw_description *descrip
 /* Stores the host as text from the start of a buffer of size bytes on, to be kept
  * over a restart: lines of hexadecimal, at most LW_LONGEST_TEXT bytes, without a 0
  * behind them. Returns 0 and the text's length in *length; or the first that applies
- * of LW_REFUSED_ID_ZERO (the host was never opened) and LW_REFUSED_BUFFER_SHORT, and
+ * of LW_REFUSED_ID_ZERO (an ID is 0: it is not open) and LW_REFUSED_BUFFER_SHORT, and
  * 0 in *length. Past the text, and where it is refused, the buffer stays as it was;
  * the host does not change. */
 static inline uint32_t lw_host_store(const lw_host *host, uint8_t *text, size_t size,

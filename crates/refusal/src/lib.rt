@@ -65,7 +65,7 @@ pub const DATA_FOR_BARE: u8 = 27;
 
 pub const REPLAY_CLOSED: u8 = 17;
 
-// Other is the class of all other numbers, 17 among them.
+// Other is the class of all other numbers: 15, 17 and 19 among them.
 pub enum Class {
     Wire,
     Message,

@@ -1,4 +1,4 @@
-//! The card's end of a pair: it owns its state, builds frames inside the lent slots, and
+//! The card's end of a connection: it owns its state, builds frames inside the lent slots, and
 //! hands them out until they are acknowledged.
 
 use crate::raw::{self, CARD_WORDS};
@@ -22,7 +22,7 @@ impl<'a> Chosen<'a> {
     }
 }
 
-/// The card's end of a pair. The slots are a buffer of 64 times the frame limit, and the same
+/// The card's end of a connection. The slots are a buffer of 64 times the frame limit, and the same
 /// ones are to be lent each time, unchanged in between. A refused step leaves card and slots as
 /// they were; only adding writes to the slots.
 #[derive(Clone, Debug, PartialEq, Eq)]

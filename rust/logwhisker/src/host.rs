@@ -1,4 +1,4 @@
-//! The charging host's end of a pair: it owns its state, answers any bytes at all, and
+//! The charging host's end of a connection: it owns its state, answers any bytes at all, and
 //! writes what accepted frames say into the memory lent with each of them.
 
 use crate::FRAME_HEADER;
@@ -178,7 +178,7 @@ impl Description {
     }
 }
 
-/// The host's end of a pair. Unless a frame is accepted, host and memory stay as they were.
+/// The host's end of a connection. Unless a frame is accepted, host and memory stay as they were.
 #[derive(Clone, Debug, PartialEq, Eq)]
 pub struct Host {
     words: [u64; HOST_WORDS],

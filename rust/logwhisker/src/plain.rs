@@ -5,7 +5,7 @@ use crate::host::Answer;
 use crate::raw::{self, ANSWER_WORDS, PLAIN_WORDS};
 use crate::refusal::Refusal;
 
-/// A plain host's end of a pair: one word for each number and each mark.
+/// A plain host's end of a connection: one word for each number and each mark.
 ///
 /// ```
 /// use logwhisker::{Host, PlainHost};
