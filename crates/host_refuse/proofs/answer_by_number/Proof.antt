@@ -20,7 +20,9 @@ refusing-requires c κs = search needs
 
 returns : tie.Need-returns
 unfolding numberAnswered
-returns c = c .refusing .ensures ∙ rw (← c .before .before .refusal-of .ensures, ne-eqb _ 0 (c .before .if1 .taken))
+returns c =
+    let layout = c .before .before .refusal-of in
+    c .refusing .ensures ∙ rw (← layout .ensures, ne-eqb (layout .result) 0 (c .before .if1 .taken))
 
 again-requires : tie.Need-again-requires
 again-requires c κs = search needs
@@ -30,7 +32,7 @@ unfolding numberAnswered
 returns-2 c =
     let cut = c .before .before in
     c .again .ensures
-    ∙ rw (← cut .before .refusal-of .ensures, eq-eqb _ 0 (cut .if1 .left), le-leb 32768 _ (c .before .if2 .taken))
+    ∙ rw (← cut .before .refusal-of .ensures, eq-eqb (cut .before .refusal-of .result) 0 (cut .if1 .left), le-leb 32768 _ (c .before .if2 .taken))
 
 again-requires-2 : tie.Need-again-requires-2
 again-requires-2 c κs = search needs
@@ -43,7 +45,7 @@ returns-3 c =
     c .again2 .ensures
     ∙ rw (
       ← cut .before .refusal-of .ensures,
-      eq-eqb _ 0 (cut .if1 .left),
+      eq-eqb (cut .before .refusal-of .result) 0 (cut .if1 .left),
       lt-leb 32768 _ (near .before .if2 .left),
       lt-ltb _ 64 (near .if3 .taken),
     )
@@ -59,7 +61,7 @@ returns-4 c =
     c .refusing2 .ensures
     ∙ rw (
       ← cut .before .refusal-of .ensures,
-      eq-eqb _ 0 (cut .if1 .left),
+      eq-eqb (cut .before .refusal-of .result) 0 (cut .if1 .left),
       lt-leb 32768 _ (near .before .if2 .left),
       le-ltb _ 64 (near .if3 .left),
     )

@@ -19,14 +19,18 @@ refusing-requires c κs = search needs
 
 returns : tie.Need-returns
 unfolding refusedWith
-returns c = c .refusing .ensures ∙ rw (← c .before .before .refusal-of .ensures, ne-eqb _ 0 (c .before .if1 .taken))
+returns c =
+    let cut = c .before .before .refusal-of in
+    c .refusing .ensures ∙ rw (← cut .ensures, ne-eqb (cut .result) 0 (c .before .if1 .taken))
 
 refusing-requires-2 : tie.Need-refusing-requires-2
 refusing-requires-2 c κs = search needs
 
 returns-2 : tie.Need-returns-2
 unfolding refusedWith
-returns-2 c = c .refusing2 .ensures ∙ rw (← c .before .before .refusal-of .ensures, eq-eqb _ 0 (c .before .if1 .left))
+returns-2 c =
+    let cut = c .before .before .refusal-of in
+    c .refusing2 .ensures ∙ rw (← cut .ensures, eq-eqb (cut .result) 0 (c .before .if1 .left))
 
 pub refuse-spec : {M : Type 1} → statement M
 refuse-spec =
