@@ -84,7 +84,7 @@ pub extern "C" fn lw_refusal_class(refusal: u32) -> u32
     refusal::class_number(refusal::class_of(refusal))
 }
 
-// Of 64 marks, how many from bit 0 on are set before the first clear one; 64 if none is clear.
+// How many of 64 marks are set below the lowest clear one; 64 without a clear one.
 #[no_mangle]
 pub extern "C" fn lw_trailing_ones(marks: u64) -> u32
     ensures { λ r. ⌜ r ≡ trailingOnes 64 marks ⌝ }

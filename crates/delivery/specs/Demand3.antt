@@ -90,9 +90,9 @@ unfoldable pub allTyped : List Event → Bool
 allTyped [] = true
 allTyped (x ∷ xs) = typed x && allTyped xs
 
--- Late (a term of the rules) on arrival: a copy of a sealed frame by the host's lowest count not accepted less its own,
--- an acknowledgement by the card's lowest not released less the answered frame's, the first that it covers. Neither may
--- be more than 32,768 numbers late, each arrival taken with the book as it stands then.
+-- Late (a term of the rules) on arrival: how far the count of a copy's frame lies before the lowest that the host has
+-- not accepted; and of an acknowledgement, how far the first frame that it covers lies before the lowest that the card
+-- has not released. Neither may be more than 32,768, each arrival taken with the book as it stands then.
 abbrev pub copyLateMost : ℕ
 copyLateMost = 32768
 

@@ -24,7 +24,7 @@ use Rattle.host.specs.declared.Answer.the-variants.{Accepted, Again, NoM
 
 -- ---- opening
 
--- Next frame 0, nothing received ahead, next transaction 0, none open.
+-- Both windows begin at 0 and hold no mark, and no transaction is open.
 unfoldable pub fresh : ℕ → ℕ → Pair
 fresh own peer = record {
   own = own;
@@ -104,11 +104,11 @@ settled p num =
     let d = distance frameSpace (p .next .0) num in
     leb 32768 d || (ltb d 64 && mark (p .marks) d)
 
--- The length of the longest run of numbers from `num` on in which each is behind or accepted, at most 255.
+-- The run from `num` on: how many numbers, one after another and 255 at most, are settled.
 unfoldable pub runFrom : Pair → ℕ → ℕ
 runFrom p num = leading (λ i. settled p (advance frameSpace num i)) 255
 
--- The pair after a frame took effect: its number is marked, and next moves past every consecutive accepted number.
+-- The pair after a frame took effect: it is marked, and the window begins at the first number that is not accepted.
 unfoldable pub afterFrame : Pair → ℕ → Transactions → Pair
 afterFrame p num t =
     let window = markedAndMoved frameSpace 64 (p .next .0) (p .marks) num in

@@ -34,7 +34,7 @@ abbrev pub leftIn : Open → MessageHeader → Open
 leftIn o h = cond (fills o h) free (oneMore o h)
 
 -- The verdict on a message: refused and nothing changed; or its transaction is complete, so that it is closed and the
--- window moves past consecutive closed ones; or it is open with one message more.
+-- window begins at the first that is not; or it is open with one message more.
 unfoldable pub refusing : ℕ → ℕ → ℕ → Open → Verdict
 refusing r lowest closed o = record {
   refusal = r;

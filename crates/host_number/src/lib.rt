@@ -22,7 +22,7 @@ pub fn is_new(marks: u64, d: u16) -> bool
     true
 }
 
-// A frame is accepted: its number is marked, next moves past every consecutive accepted number, and the transactions'
+// A frame is accepted: it is marked, the window begins at the first number that is not accepted, and the transactions'
 // window is the one that the frame leaves. Answers the run of numbers that the frame acknowledges.
 pub fn accept(words: &mut [u64], number: FrameNo, lowest: TransNo, closed: u32) -> u8
     ensures { λ r. ⌜ r ≡ runOfAccepted (headPart (pairOf (now (words .entry)))) (number .0) ⌝ }

@@ -27,7 +27,7 @@ use Rattle.host_plain.specs.declared.PlainStepped.{PlainStepped}
 abbrev pub free : Open
 free = record { address = 0; value = 0; count = 0; received = 0 }
 
--- Next frame 0, nothing received ahead, next transaction 0, none open.
+-- Both windows begin at 0 and hold no mark, and no transaction is open.
 unfoldable pub fresh : ℕ → ℕ → PlainPair
 fresh own peer = record {
   own = own;
@@ -74,7 +74,7 @@ unfoldable pub runFrom : ℕ → PlainFrames → ℕ → ℕ
 runFrom zero s num = 0
 runFrom (suc most) s num = cond (isReceived s num) (suc (runFrom most s (advance frameSpace num 1))) 0
 
--- A number in the window is marked, and next moves past every consecutive accepted number.
+-- A number in the window is marked, and the window begins at the first number that is not accepted.
 unfoldable pub accepting : PlainFrames → ℕ → PlainFrames
 accepting s num =
     let marks = set (s .accepted) (ahead s num) true in
@@ -114,7 +114,7 @@ messageRefusal t h len size =
 unfoldable pub completes : Open → MessageHeader → Bool
 completes o h = eqb (o .received + 1) (cond (eqb (h .count) 0) 1 (h .count))
 
--- A complete transaction is closed, and the window moves past consecutive closed ones.
+-- A complete transaction is closed, and the window begins at the first that is not.
 unfoldable pub closing : PlainTransactions → MessageHeader → PlainTransactions
 closing t h =
     let marks = set (t .closed) (away t h) true in

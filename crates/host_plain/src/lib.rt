@@ -143,7 +143,7 @@ fn run_from(frames: PlainFrames, first: FrameNo) -> u8
     run
 }
 
-// A frame in the window is marked, and next moves past every consecutive accepted number.
+// A frame in the window is marked, and the window begins at the first number that is not accepted.
 fn accept(frames: PlainFrames, number: FrameNo) -> PlainFrames
     requires { ⌜ plain.ahead frames (number .0) < 64 ⌝ }
     ensures { λ r. ⌜ r ≡ plain.accepting frames (number .0) ⌝ }
@@ -217,7 +217,7 @@ fn is_complete(o: Open, h: MessageHeader) -> bool
 }
 
 // The transactions after a message that is not refused: its own is open with one more received; or it is complete, and
-// then it is closed, and the window moves past consecutive closed ones.
+// then it is closed, and the window begins at the first that is not.
 fn take_in(t: PlainTransactions, h: MessageHeader) -> PlainTransactions
     requires { ⌜ plain.away t h < 32 ⌝ }
     ensures { λ r. ⌜ r ≡ plain.after t h ⌝ }

@@ -124,7 +124,7 @@ opensFine lowest closed least (xs ∷ lines) =
     openFine lowest closed least (numberIn xs) (openIn xs)
     && opensFine lowest closed (suc (distance transSpace lowest (numberIn xs))) lines
 
--- A refused reading hands back what a refused opening does.
+-- The pair after a refused reading is that of a refused opening.
 abbrev pub refusedReading : Opened
 refusedReading = record { pair = refusedOpening .pair; refusal = record { number = 15; place = 0 } }
 

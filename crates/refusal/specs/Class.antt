@@ -9,7 +9,8 @@ use Rattle.refusal.specs.declared.Class.the-variants.{Wire, Message, Cal
 unfoldable pub between : ℕ → ℕ → ℕ → Bool
 between a b n = leb a n && leb n b
 
--- 1 to 6 wire, 7 to 12 message, 13 and 14 caller, 20 to 27 card; any other number has no class.
+-- The numbers of each class: of the wire 1 to 6, of a message 7 to 12, of the caller 13 and 14, of the card 20 to 27.
+-- All others have none.
 unfoldable pub classOf : ℕ → Class
 classOf n =
     cond (between 1 6 n) Wire

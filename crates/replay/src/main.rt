@@ -1,4 +1,4 @@
-// Replays a capture: reads lines of hexadecimal, one frame a line, from standard input, and writes the answers of a
+// Replays a capture: standard input has a frame on every line, spelled in hexadecimal. It writes the answers of a
 // charging host of own ID 1 and peer 2, and last the totals. It feeds what it reads to the crate replay_feed, piece
 // by piece, and writes the text of what that answers; reading and writing are the crate replay_output's.
 // Where one of them fails, that is said on standard error and no totals are written: a program has no exit status, so

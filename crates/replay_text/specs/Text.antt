@@ -18,7 +18,7 @@ use Rattle.replay_line.specs.Report.{letterOf, numbersOf}
 
 -- ---- lines
 
--- The lines are what stands before each newline; a last line without a newline counts if not empty.
+-- A line ends before its newline. What follows the last newline is a line too, unless there is nothing.
 abbrev pub withFirst : ℕ → List (List ℕ) → List (List ℕ)
 withFirst c [] = (c ∷ []) ∷ []
 withFirst c (line ∷ lines) = (c ∷ line) ∷ lines
@@ -47,7 +47,8 @@ answersTo pair memory (line ∷ lines) =
     let rest = answersTo (r .pair) (r .memory) lines in
     record { answers = r .answer ∷ rest .answers; pair = rest .pair; memory = rest .memory }
 
--- Own ID 1, peer 2; the memory is 4,096 zero bytes at the start. No more than the first 1,000,000 lines are answered.
+-- The host of a replay has ID 1, its peer 2, and its memory starts as 4,096 zeros. Lines past the first 1,000,000 are not
+-- answered.
 abbrev pub linesMost : ℕ
 linesMost = 1000000
 
