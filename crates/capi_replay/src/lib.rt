@@ -3,8 +3,9 @@
 // is said of a line as a number and words (specs/Replies.antt).
 use logwhisker::Reply;
 ghost use mathlib.Core.Path.{_≡_};
+ghost use mathlib.Core.List.{[], _∷_};
 ghost use lib.ListN.{replicate};
-ghost use Rattle.replay_text.specs.Feeding.{feed as feedOf, close as closeOf};
+ghost use Rattle.replay_text.specs.Feeding.{feed as feedOf, close as closeOf, LeftIfClosed};
 ghost use Rattle.replay_feed.specs.State.{replayingOf, OpensReplay};
 ghost use Rattle.capi_replay.specs.Replies.{replyNumber, replyWords, totalsUnlessRefused};
 
@@ -62,6 +63,11 @@ pub extern "C" fn lw_raw_replay_feed(
         ≡ replyWords (feedOf
         (replayingOf (now (place .entry)) (now (words .entry)) (now (frame .entry)) (now (memory .entry)))
         (now (fragment .entry)) .reply) (now (answer .entry)) ⌝ }
+    ensures { λ _. ⌜ LeftIfClosed (feedOf
+        (replayingOf (now (place .entry)) (now (words .entry)) (now (frame .entry)) (now (memory .entry)))
+        (now (fragment .entry)) .reply)
+        (now (place .entry) ∷ now (words .entry) ∷ now (frame .entry) ∷ now (memory .entry) ∷ [])
+        (now (place .exit) ∷ now (words .exit) ∷ now (frame .exit) ∷ now (memory .exit) ∷ []) ⌝ }
 {
     let fed = logwhisker::feed_replay(place, words, frame, memory, fragment);
     *taken = fed.taken;
@@ -92,6 +98,10 @@ pub extern "C" fn lw_raw_replay_close(
         ≡ totalsUnlessRefused (closeOf
         (replayingOf (now (place .entry)) (now (words .entry)) (now (frame .entry)) (now (memory .entry))))
         (now (totals .entry)) ⌝ }
+    ensures { λ _. ⌜ LeftIfClosed (closeOf
+        (replayingOf (now (place .entry)) (now (words .entry)) (now (frame .entry)) (now (memory .entry))) .reply)
+        (now (place .entry) ∷ now (words .entry) ∷ now (memory .entry) ∷ [])
+        (now (place .exit) ∷ now (words .exit) ∷ now (memory .exit) ∷ []) ⌝ }
 {
     let closed = logwhisker::close_replay(place, words, frame, memory);
     let t = closed.totals;

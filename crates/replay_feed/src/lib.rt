@@ -9,10 +9,11 @@ use replay_place::Closed;
 use replay_place::Fed;
 use replay_text::Reply;
 ghost use mathlib.Core.Path.{_≡_};
+ghost use mathlib.Core.List.{[], _∷_};
 ghost use lib.ListN.{replicate};
 ghost use Rattle.host_words.specs.Words.{pairOf};
 ghost use Rattle.replay_line.specs.Report.{answeredLine};
-ghost use Rattle.replay_text.specs.Feeding.{feed as feedOf, close as closeOf};
+ghost use Rattle.replay_text.specs.Feeding.{feed as feedOf, close as closeOf, LeftIfClosed};
 ghost use Rattle.replay_place.specs.Place.{fedOf, closedOf, counted, Answers};
 ghost use Rattle.replay_feed.specs.State.{replayingOf, OpensReplay};
 
@@ -77,6 +78,9 @@ pub fn feed(
         ≡ feedOf
         (replayingOf (now (place .entry)) (now (words .entry)) (now (frame .entry)) (now (memory .entry)))
         (now (fragment .entry)) .state ⌝ }
+    ensures { λ r. ⌜ LeftIfClosed (r .reply)
+        (now (place .entry) ∷ now (words .entry) ∷ now (frame .entry) ∷ now (memory .entry) ∷ [])
+        (now (place .exit) ∷ now (words .exit) ∷ now (frame .exit) ∷ now (memory .exit) ∷ []) ⌝ }
 {
     let got = replay_place::take_in(place, frame, fragment);
     let taken = got.taken;
@@ -105,6 +109,9 @@ pub fn close(
     ensures { λ _. ⌜ replayingOf (now (place .exit)) (now (words .exit)) (now (frame .entry)) (now (memory .exit))
         ≡ closeOf
         (replayingOf (now (place .entry)) (now (words .entry)) (now (frame .entry)) (now (memory .entry))) .state ⌝ }
+    ensures { λ r. ⌜ LeftIfClosed (r .reply)
+        (now (place .entry) ∷ now (words .entry) ∷ now (memory .entry) ∷ [])
+        (now (place .exit) ∷ now (words .exit) ∷ now (memory .exit) ∷ []) ⌝ }
 {
     let held: &[u8] = frame;
     if replay_place::has_last(place) {

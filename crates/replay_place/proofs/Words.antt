@@ -1,16 +1,20 @@
 -- What taking a fragment in and closing make of the words, case by case as the functions' proofs ask for it.
 -- Assumes nothing.
-use mathlib.Core.Path.{_≡_}
-use mathlib.Core.Bool.{true, false, not}
+use mathlib.Core.Path.{_≡_, refl, sym, _∙_, ap}
+use mathlib.Core.Bool.{Bool, true, false, not, true≢false}
 use mathlib.Core.List.{List}
 use mathlib.Core.Logic.{_≢_}
 use Prim.Native.Nat.{ℕ, _≤_, _<_}
 use borrow.Author.Tests.{le-leb, lt-leb, ne-eqb}
+use lib.Dec.{leb}
 use lib.ListN.{length, getD}
 use Rattle.hex_line.specs.declared.Taken.{Taken}
 use Rattle.hex_line.specs.Taking.{takenFrom, frameAfter, emptyLine}
-use Rattle.replay_text.specs.declared.Reply.the-variants.{Nothing, Refused}
+use Rattle.host.specs.declared.Answer.{Answer}
+use Rattle.replay_text.specs.declared.Reply.{Reply}
+use Rattle.replay_text.specs.declared.Reply.the-variants.{Answered, Nothing, Refused}
 use Rattle.replay_text.specs.Text.{linesMost, noTotals}
+use Rattle.replay_text.specs.Feeding.{LeftIfClosed}
 use Rattle.replay_place.specs.declared.Taking.{Taking}
 use Rattle.replay_place.specs.declared.Closed.{Closed}
 use Rattle.replay_place.specs.Place.{
@@ -27,6 +31,49 @@ use Rattle.replay_place.specs.Place.{
   closingOf,
   placeClosed,
 }
+
+-- ---- what a call leaves where it is refused
+
+abbrev refusing : Reply → Bool
+refusing (Answered answer) = false
+refusing Nothing = false
+refusing (Refused n) = true
+
+-- one that answers a line is not refused
+pub answered-left : {A : Type 0} (answer : Answer) (lent left : A) → LeftIfClosed (Answered answer) lent left
+answered-left answer lent left h = absurd (true≢false (sym (ap refusing h)))
+
+module _ (place : List ℕ) where
+  pub closing-left : (closed : Closed) (place′ : List ℕ) → (closed ≡ closingOf place) × (place′ ≡ placeClosed place)
+      → (lent : List ℕ → List (List ℕ)) → LeftIfClosed (closed .reply) (lent place) (lent place′)
+  unfolding closingOf placeClosed
+  closing-left closed place′ e lent h = ap lent (e .1 ∙ go (closedIn place) refl)
+    where
+      go : (b : Bool) → closedIn place ≡ b → placeClosed place ≡ place
+      go true c = rw c
+      go false o =
+          let none : refusing (closingOf place .reply) ≡ false = rw o in
+          absurd (true≢false (sym (ap refusing h) ∙ ap (λ (x : Closed). refusing (x .reply)) (e .0) ∙ none))
+
+  pub taking-left : (frame fragment : List ℕ) (t : Taking) (place′ frame′ : List ℕ)
+      → (t ≡ takingOf place frame fragment)
+      × ((place′ ≡ placeTaken place frame fragment) × (frame′ ≡ frameTaken place frame fragment))
+      → (lent : List ℕ → List ℕ → List (List ℕ)) → LeftIfClosed (t .reply) (lent place frame) (lent place′ frame′)
+  unfolding takingOf placeTaken frameTaken
+  taking-left frame fragment t place′ frame′ e lent h =
+      let w = go (closedIn place) refl (leb linesMost (linesIn place)) refl in
+      ap (λ (p : List ℕ). lent p frame′) (e .1 .0 ∙ w .0) ∙ ap (lent place) (e .1 .1 ∙ w .1)
+    where
+      not-refused : refusing (takingOf place frame fragment .reply) ≡ false
+          → (placeTaken place frame fragment ≡ place) × (frameTaken place frame fragment ≡ frame)
+      not-refused none =
+          absurd (true≢false (sym (ap refusing h) ∙ ap (λ (x : Taking). refusing (x .reply)) (e .0) ∙ none))
+
+      go : (b : Bool) → closedIn place ≡ b → (l : Bool) → leb linesMost (linesIn place) ≡ l
+          → (placeTaken place frame fragment ≡ place) × (frameTaken place frame fragment ≡ frame)
+      go true c l k = (rw c, rw c)
+      go false o true k = not-refused (rw (k, o))
+      go false o false k = not-refused (rw (k, o))
 
 module _ (place : List ℕ) where
   is-closed : getD place 4 0 ≢ 0 → closedIn place ≡ true

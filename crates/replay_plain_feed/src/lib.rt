@@ -11,10 +11,11 @@ use replay_place::Closed;
 use replay_place::Fed;
 use replay_text::Reply;
 ghost use mathlib.Core.Path.{_≡_};
+ghost use mathlib.Core.List.{[], _∷_};
 ghost use lib.ListN.{replicate};
 ghost use Rattle.host_equal.specs.Described.{pairOfPlain};
 ghost use Rattle.replay_line.specs.Report.{answeredLine};
-ghost use Rattle.replay_text.specs.Feeding.{feed as feedOf, close as closeOf};
+ghost use Rattle.replay_text.specs.Feeding.{feed as feedOf, close as closeOf, LeftIfClosed};
 ghost use Rattle.replay_place.specs.Place.{fedOf, closedOf, counted, Answers};
 ghost use Rattle.replay_plain_feed.specs.State.{replayingOf, OpensReplay};
 
@@ -94,6 +95,10 @@ pub fn feed(
         ≡ feedOf
         (replayingOf (now (place .entry)) pair (now (frame .entry)) (now (memory .entry)))
         (now (fragment .entry)) .state ⌝ }
+    ensures { λ r. ⌜ LeftIfClosed (r .fed .reply)
+        (now (place .entry) ∷ now (frame .entry) ∷ now (memory .entry) ∷ [])
+        (now (place .exit) ∷ now (frame .exit) ∷ now (memory .exit) ∷ []) ⌝ }
+    ensures { λ r. ⌜ LeftIfClosed (r .fed .reply) pair (r .pair) ⌝ }
 {
     let got = replay_place::take_in(place, frame, fragment);
     let taken = got.taken;
@@ -124,6 +129,10 @@ pub fn close(
     ensures { λ r. ⌜ replayingOf (now (place .exit)) (r .pair) (now (frame .entry)) (now (memory .exit))
         ≡ closeOf
         (replayingOf (now (place .entry)) pair (now (frame .entry)) (now (memory .entry))) .state ⌝ }
+    ensures { λ r. ⌜ LeftIfClosed (r .closed .reply)
+        (now (place .entry) ∷ now (memory .entry) ∷ [])
+        (now (place .exit) ∷ now (memory .exit) ∷ []) ⌝ }
+    ensures { λ r. ⌜ LeftIfClosed (r .closed .reply) pair (r .pair) ⌝ }
 {
     let held: &[u8] = frame;
     if replay_place::has_last(place) {

@@ -1,5 +1,6 @@
 -- The replay from fragments: what it holds between two of them, feeding one, and closing.
 use Prim.Native.Nat.{ℕ, zero, suc, _+_, _*_}
+use mathlib.Core.Path.{_≡_}
 use mathlib.Core.Bool.{Bool, true, false, cond, not}
 use mathlib.Core.List.{List, [], _∷_, _++_}
 use mathlib.Core.Option.{Option, none, some}
@@ -147,6 +148,10 @@ close s =
     (cond (hasLast s)
     (record { state = closing (lineEnded s); reply = Answered (lineAnswer s); totals = lineEnded s .totals })
     (record { state = closing s; reply = Nothing; totals = s .totals }))
+
+-- A call that is refused with 17 leaves what it was lent as it was, word for word and byte for byte.
+abbrev pub LeftIfClosed : {A : Type 0} → Reply → A → A → Type 0
+LeftIfClosed reply lent left = reply ≡ Refused 17 → left ≡ lent
 
 -- ---- a text, fed in fragments
 

@@ -31,10 +31,10 @@ returns c =
     let said = c .before .put-reply .ensures .0 ∙ ap replyNumber reply in (
       said,
       (
-        k .1,
+        k .1 .0,
         (
           c .before .put-reply .ensures .1 ∙ ap (λ (r : Reply). replyWords r (a .answer .now)) reply,
-          totals-stay step _ (a .totals .now) said (c .if1 .taken),
+          (totals-stay step _ (a .totals .now) said (c .if1 .taken), λ h. k .1 .1 (reply ∙ h)),
         ),
       ),
     )
@@ -50,10 +50,13 @@ returns-2 c =
     let said = c2 .put-reply .ensures .0 ∙ ap replyNumber reply in (
       said,
       (
-        k .1,
+        k .1 .0,
         (
           c2 .put-reply .ensures .1 ∙ ap (λ (r : Reply). replyWords r (a .answer .now)) reply,
-          totals-told step _ (a .totals .now) said (c .before .if1 .left) _ (ap (λ (x : Closed). x .totals) (k .0)),
+          (
+            totals-told step _ (a .totals .now) said (c .before .if1 .left) _ (ap (λ (x : Closed). x .totals) (k .0)),
+            λ h. k .1 .1 (reply ∙ h),
+          ),
         ),
       ),
     )

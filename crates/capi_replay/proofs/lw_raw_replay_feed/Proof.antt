@@ -26,10 +26,13 @@ returns c =
     let reply = ap (λ (x : Fed). x .reply) (k .0) in (
       c .put-reply .ensures .0 ∙ ap replyNumber reply,
       (
-        k .1,
+        k .1 .0,
         (
           ap (λ (x : Fed). x .taken) (k .0),
-          c .put-reply .ensures .1 ∙ ap (λ (r : Reply). replyWords r (a .answer .now)) reply,
+          (
+            c .put-reply .ensures .1 ∙ ap (λ (r : Reply). replyWords r (a .answer .now)) reply,
+            λ h. k .1 .1 (reply ∙ h),
+          ),
         ),
       ),
     )

@@ -1,9 +1,12 @@
 -- `replay_feed::feed`: a part of a line, or a line and what the host says of it.
 -- Assumes nothing.
 use mathlib.Core.Path.{_≡_}
+use mathlib.Core.List.{List, [], _∷_}
+use Prim.Native.Nat.{ℕ}
 use native.Mathlib.Omega.{arith}
 use lib.ListN.{length}
 use Rattle.host_words.specs.Words.{pairOf}
+use Rattle.replay_place.proofs.Words.{answered-left, taking-left}
 use Rattle.replay_place.proofs.Steps.{fed-part, fed-line}
 use borrow.Author.Needs.{needs}
 use Rattle.replay_feed.proofs.feed.Statement.{statement}
@@ -26,9 +29,11 @@ returns c =
     let a = got .before .before .before .before .args in
     let k = got .take-in .ensures in
     let n : length (a .frame .now) ≡ 9000 = omega arith in
+    let fed =
     fed-line (a .place .now) (pairOf (a .words .now)) (a .frame .now) (a .memory .now) (a .fragment .now)
     (omega (arith, n)) _ _ _ (k .0) (k .1 .0) (k .1 .1) (ended .if1 .taken) _ _ _ _ (c .end-line .ensures .0)
-    (c .end-line .ensures .1)
+    (c .end-line .ensures .1) in
+    (fed .0, (fed .1, answered-left _ _ _))
 
 returns-2 : tie.Need-returns-2
 returns-2 c =
@@ -36,8 +41,13 @@ returns-2 c =
     let a = got .before .before .before .before .args in
     let k = got .take-in .ensures in
     let n : length (a .frame .now) ≡ 9000 = omega arith in
+    let fed =
     fed-part (a .place .now) (pairOf (a .words .now)) (a .frame .now) (a .memory .now) (a .fragment .now)
-    (omega (arith, n)) _ _ _ (k .0) (k .1 .0) (k .1 .1) (c .if1 .left)
+    (omega (arith, n)) _ _ _ (k .0) (k .1 .0) (k .1 .1) (c .if1 .left) in
+    let left =
+    taking-left (a .place .now) (a .frame .now) (a .fragment .now) _ _ _ k
+    (λ (p f : List ℕ). p ∷ a .words .now ∷ f ∷ a .memory .now ∷ []) in
+    (fed .0, (fed .1, left))
 
 pub feed-spec : {M : Type 1} → statement M
 feed-spec = tie.close (tie.spec take-in-requires end-line-requires returns returns-2)

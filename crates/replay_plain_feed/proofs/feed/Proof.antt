@@ -1,9 +1,12 @@
 -- `replay_plain_feed::feed`: a part of a line, or a line and what the plain host says of it.
 -- Assumes nothing.
-use mathlib.Core.Path.{_≡_}
+use mathlib.Core.Path.{_≡_, refl}
+use mathlib.Core.List.{List, [], _∷_}
+use Prim.Native.Nat.{ℕ}
 use native.Mathlib.Omega.{arith}
 use lib.ListN.{length}
 use Rattle.host_equal.specs.Described.{pairOfPlain}
+use Rattle.replay_place.proofs.Words.{answered-left, taking-left}
 use Rattle.replay_place.proofs.Steps.{fed-part, fed-line}
 use borrow.Author.Needs.{needs}
 use Rattle.replay_plain_feed.proofs.feed.Statement.{statement}
@@ -27,9 +30,11 @@ returns c =
     let a = got .before .before .before .before .args in
     let k = got .take-in .ensures in
     let n : length (a .frame .now) ≡ 9000 = omega arith in
+    let fed =
     fed-line (a .place .now) (pairOfPlain (a .pair)) (a .frame .now) (a .memory .now) (a .fragment .now)
     (omega (arith, n)) _ _ _ (k .0) (k .1 .0) (k .1 .1) (taken .if1 .taken) _ _ _ _ (ended .end-line .ensures .0)
-    (ended .end-line .ensures .1)
+    (ended .end-line .ensures .1) in
+    (fed .0, (fed .1, (answered-left _ _ _, answered-left _ _ _)))
 
 returns-2 : tie.Need-returns-2
 returns-2 c =
@@ -37,8 +42,13 @@ returns-2 c =
     let a = got .before .before .before .before .args in
     let k = got .take-in .ensures in
     let n : length (a .frame .now) ≡ 9000 = omega arith in
+    let fed =
     fed-part (a .place .now) (pairOfPlain (a .pair)) (a .frame .now) (a .memory .now) (a .fragment .now)
-    (omega (arith, n)) _ _ _ (k .0) (k .1 .0) (k .1 .1) (c .if1 .left)
+    (omega (arith, n)) _ _ _ (k .0) (k .1 .0) (k .1 .1) (c .if1 .left) in
+    let left =
+    taking-left (a .place .now) (a .frame .now) (a .fragment .now) _ _ _ k
+    (λ (p f : List ℕ). p ∷ f ∷ a .memory .now ∷ []) in
+    (fed .0, (fed .1, (left, λ h. refl)))
 
 pub feed-spec : {M : Type 1} → statement M
 feed-spec = tie.close (tie.spec take-in-requires end-line-requires returns returns-2)
