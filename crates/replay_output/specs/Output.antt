@@ -24,6 +24,7 @@ abbrev pub Makes : List ℕ → ℕ → Bool → Room → Type 0
 Makes out used failed made =
     (failed ≡ true → made ≡ stopped)
     × (failed ≡ false → used + 170 ≤ length out → made ≡ record { used = used; failed = false })
+    × (failed ≡ false → length out < used + 170 → made .used ≡ 0)
 
 -- The answer's line behind what is used.
 abbrev pub roomAfter : List ℕ → Room → Reply → Room

@@ -11,18 +11,21 @@ use Rattle.replay_output.proofs.make_room.Lts as lts
 use Rattle.replay_output.proofs.write_out.Reads as write-out-reads
 
 returns : tie.Need-returns
-returns c = (λ h. rw h, λ h k. absurd (true≢false (sym (c .if1 .taken) ∙ h)))
+returns c = (λ h. rw h, λ h k. absurd (true≢false (sym (c .if1 .taken) ∙ h)), λ h k. refl)
 
 returns-2 : tie.Need-returns-2
-returns-2 c = (λ h. refl, λ h k. absurd (omega (arith, k, c .if2 .taken)))
+returns-2 c = (λ h. refl, λ h k. absurd (omega (arith, k, c .if2 .taken)), λ h k. refl)
 
 sub-if3 : tie.Need-sub-if3
 sub-if3 c = search needs
 
 returns-3 : tie.Need-returns-3
 returns-3 c =
-    let whole = c .before .before in
-    (λ h. absurd (true≢false (sym h ∙ whole .if1 .left)), λ h k. rw h)
+    let whole = c .before .before in (
+      λ h. absurd (true≢false (sym h ∙ whole .if1 .left)),
+      λ h k. rw h,
+      λ h k. absurd (omega (arith, k, c .if3 .taken)),
+    )
 
 write-out-requires : tie.Need-write-out-requires
 write-out-requires c κs = search needs
@@ -33,6 +36,7 @@ returns-4 c =
     let whole = full .before .before in (
       λ h. absurd (true≢false (sym h ∙ whole .if1 .left)),
       λ h k. absurd (omega (arith, k, full .if3 .left)),
+      λ h k. refl,
     )
 
 returns-5 : tie.Need-returns-5
@@ -41,6 +45,7 @@ returns-5 c =
     let whole = full .before .before in (
       λ h. absurd (true≢false (sym h ∙ whole .if1 .left)),
       λ h k. absurd (omega (arith, k, full .if3 .left)),
+      λ h k. refl,
     )
 
 pub make-room-spec : {M : Type 1} → statement M
