@@ -1,7 +1,9 @@
 -- `capi_host::lw_raw_host_receive`: receiving, and the answer as words.
 -- Assumes nothing.
-use mathlib.Core.Path.{_∙_}
+use mathlib.Core.Path.{_∙_, ap}
+use lib.ListN.{getD}
 use borrow.Author.Needs.{needs}
+use Rattle.host.specs.Host.{answerWords}
 use Rattle.capi_host.proofs.lw_raw_host_receive.Statement.{statement}
 use Rattle.capi_host.proofs.lw_raw_host_receive.Tie as tie
 use Rattle.capi_host.proofs.lw_raw_host_receive.Reads as reads
@@ -25,8 +27,8 @@ same-length c = search needs
 returns : tie.Need-returns
 returns c =
     let k = c .before .before .before .before .before .receive .ensures in (
-      c .kind-of .ensures ∙ rw (k .0),
-      (k .1 .0, (k .1 .1 .0, (c .before .put-answer .ensures ∙ rw (k .0), rw (← (k .0)) (k .1 .1 .1)))),
+      c .kind-of .ensures ∙ ap (λ a. getD (answerWords a) 0 0) (k .0),
+      (k .1 .0, (k .1 .1 .0, (c .before .put-answer .ensures ∙ ap answerWords (k .0), rw (← (k .0)) (k .1 .1 .1)))),
     )
 
 pub lw-raw-host-receive-spec : {M : Type 1} → statement M
