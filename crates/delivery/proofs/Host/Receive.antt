@@ -303,13 +303,17 @@ module _ (cardId hostId : ℕ) (cardFits : cardId < frameSpace) (hostFits : host
         due-run frames′ c
         (ap (λ (y : FrameRecord). y .accepted) (getD-change-same (b .frames) c markAccepted inside)) .some
 
+    due-now : b′ .acksDue ≡ b .acksDue ++ ackOf frames′ c ∷ []
+    unfolding enterArrival
+    due-now = refl
+
     -- accepted and again call for the acknowledgement of the run from the frame's number on
     acks-now : (x : Pair) (a : Answer) → x .own ≡ hostId → x .peer ≡ cardId → rangeOf a
         ≡ record { start = record { 0 = num }; count = run }
         → Along (Acknowledges cardId hostId) (w .acks ++ acksFor specifiedHost x a) (b′ .acksDue)
-    unfolding enterArrival acksFor acknowledgementFrom
+    unfolding acksFor acknowledgementFrom
     acks-now x a o p q =
-        rw (o, p, q, lt-ltb 0 run some-run)
+        rw (o, p, q, due-now, lt-ltb 0 run some-run)
         (along-more (Acknowledges cardId hostId) (w .acks) (b .acksDue) (ackFrame cardId hostId 0 num run)
         (ackOf frames′ c) (f .rest .traffic .acksAre) refl)
 

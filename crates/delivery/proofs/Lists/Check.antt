@@ -2,12 +2,12 @@
 -- all premises, of a card 2 and a host 1. Assumes nothing.
 use Prim.Native.Nat.{ℕ, zero, suc, _+_, _*_, _<_}
 use native.Mathlib.Omega.{arith}
-use mathlib.Core.Path.{_≡_, refl, sym, ap, subst}
+use mathlib.Core.Path.{_≡_, refl, sym, subst}
 use mathlib.Core.Logic.{_⊎_, inl, inr}
 use mathlib.Core.Bool.{Bool, true, false, _&&_, _||_, and-eq-true-iff}
 use mathlib.Core.List.{List, [], _∷_, List·Memᴰ, List·Memᴰ·cases-cons, List·Memᴰ·not-nil}
 use borrow.Author.Tests.{leb-true, eqb-true}
-use lib.Dec.{leb, eqb, lit<}
+use lib.Dec.{T, leb, eqb, lit<}
 use lib.ListN.{length, replicate}
 use Rattle.delivery.specs.Book.{
   MessageRecord,
@@ -35,6 +35,7 @@ use Rattle.delivery.specs.Demand3.{
   Guarantees,
   Demand3For,
 }
+use Rattle.delivery.proofs.Lists.Same.{T-true, sameBook, same-book}
 
 -- ---- tests and what they show
 
@@ -182,11 +183,11 @@ abbrev pub passes : ℕ → Implementation → List ℕ → List Event → Bool
 passes limit e memory events = judge limit e memory events .passed
 
 pub applied : (limit : ℕ) (e : Implementation) → Demand3For e → (memory : List ℕ) (events : List Event)
-    → passes limit e memory events ≡ true
+    → T (passes limit e memory events)
     → Guarantees (outcomeOf (runs limit e memory events .system)) (booked limit e memory events)
 unfolding Demand3For judge
 applied limit e d memory events p =
-    let g = and-eq-true-iff _ _ .0 p in
+    let g = and-eq-true-iff _ _ .0 (T-true _ p) in
     let o = and-eq-true-iff _ _ .0 (g .0) in
     let t = and-eq-true-iff _ _ .0 (g .1) in
     let k = and-eq-true-iff _ _ .0 (t .1) in
@@ -199,7 +200,22 @@ applied limit e d memory events p =
     })
     (t .0) (k .0) (allowed-by (booked limit e memory events) (k .1))
 
+-- A list passes all premises and has this book: a test as well, which fails at the first number that differs.
+unfoldable pub judgedAs : Judged → Book → Bool
+judgedAs j b = j .passed && sameBook (j .book) b
+
+judged-as : (passed : Bool) (book b : Book) → T (passed && sameBook book b) → T passed × (book ≡ b)
+judged-as true book b t = (tt, same-book book b (T-true (sameBook book b) t))
+judged-as false book b t = absurd t
+
+pub judged-passed : (limit : ℕ) (e : Implementation) (memory : List ℕ) (events : List Event) (b : Book)
+    → T (judgedAs (judge limit e memory events) b) → T (passes limit e memory events)
+unfolding judgedAs
+judged-passed limit e memory events b t =
+    judged-as (passes limit e memory events) (judge limit e memory events .book) b t .0
+
 pub judged-book : (limit : ℕ) (e : Implementation) (memory : List ℕ) (events : List Event) (b : Book)
-    → judge limit e memory events ≡ record { passed = true; book = b } → booked limit e memory events ≡ b
-unfolding judge
-judged-book limit e memory events b q = ap (λ (j : Judged). j .book) q
+    → T (judgedAs (judge limit e memory events) b) → booked limit e memory events ≡ b
+unfolding judge judgedAs
+judged-book limit e memory events b t =
+    judged-as (passes limit e memory events) (booked limit e memory events) b t .1

@@ -109,7 +109,18 @@ use Rattle.delivery.specs.Demand3.{
   neededBy,
   bytesBy,
 }
-use Rattle.delivery.proofs.Lists.Check.{every, below, apart, noByteTwice, writesAllowed, judge}
+use Rattle.delivery.proofs.Lists.Same.{
+  sameAll,
+  messageCode,
+  transactionCode,
+  handOutCode,
+  rangeCode,
+  expectedCode,
+  sameBool,
+  sameFrame,
+  sameBook,
+}
+use Rattle.delivery.proofs.Lists.Check.{every, below, apart, noByteTwice, writesAllowed, judge, judgedAs}
 
 unfoldable pub computing : Unit {0}
 unfolding distance advance latest mark withMark leading trailingOnes marksOf little value field inside written headOf
@@ -125,4 +136,5 @@ unfolding distance advance latest mark withMark leading trailingOnes marksOf lit
     enterSealing changeAt markWhere enterAck acceptedRun enterHandOut enterArrival enterNoEffect enterDelivery shown
     chosen enter bookFrom emptyBook typed allTyped frameInTime ackInTime inTime notTooLate seenAs numberedAs copyOf
     saysAccepted timesAccepted sumOver neededBy bytesBy every below apart noByteTwice writesAllowed judge
+    sameAll messageCode transactionCode handOutCode rangeCode expectedCode sameBool sameFrame sameBook judgedAs
 computing = tt

@@ -5,7 +5,7 @@ use native.Mathlib.Omega.{arith}
 use mathlib.Core.Path.{_≡_, refl, ap, subst}
 use mathlib.Core.Bool.{true}
 use mathlib.Core.List.{List, [], _∷_, map}
-use lib.Dec.{lit<}
+use lib.Dec.{T, lit<}
 use lib.ListN.{length, getD, replicate}
 use Rattle.seq.specs.Ring.{frameSpace}
 use Rattle.bitmap.specs.Marks.{leading}
@@ -98,7 +98,7 @@ use Rattle.delivery.specs.WrongEnds.{
 }
 use Rattle.delivery.proofs.Card.CardSteps.{stays}
 use Rattle.delivery.proofs.Demand.{KeepsAgreement, starts, step-any, demand3-by}
-use Rattle.delivery.proofs.Lists.Check.{runs, Judged, judge, passes, applied, judged-book}
+use Rattle.delivery.proofs.Lists.Check.{runs, judge, passes, applied, judgedAs, judged-passed, judged-book}
 use Rattle.delivery.proofs.Lists.Computing.{computing}
 
 -- The kind of the k-th answer, as a number.
@@ -119,9 +119,9 @@ inOrder =
     ∷ opens 1 5 1 ∷ adds 1 9 (9 ∷ []) ∷ seals ∷ shows 1 ∷ receives 1 ∷ []
 
 -- The premises do not depend on the host.
-met : (r : Receiving) → passes 36 (withHost r) (replicate 10 0) inOrder ≡ true
+met : (r : Receiving) → T (passes 36 (withHost r) (replicate 10 0) inOrder)
 unfolding computing inOrder
-met r = refl
+met r = tt
 
 not-refusesAll : Demand3For (withHost refusesAll) → ⊥
 unfolding computing inOrder refusesAll kind kindAt
@@ -214,20 +214,21 @@ read-finished (suc (suc i)) h = absurd (omega arith)
 
 -- The demand, of a host whose list has this book.
 applied-read : (r : Receiving) → Demand3For (withHost r)
-    → judge 36 (withHost r) (replicate 10 0) inOrderRead ≡ record { passed = true; book = readBook }
+    → T (judgedAs (judge 36 (withHost r) (replicate 10 0) inOrderRead) readBook)
     → Guarantees (outcomeOf (runs 36 (withHost r) (replicate 10 0) inOrderRead .system)) readBook
 applied-read r d q =
     subst (Guarantees (outcomeOf (runs 36 (withHost r) (replicate 10 0) inOrderRead .system)))
     (judged-book 36 (withHost r) (replicate 10 0) inOrderRead readBook q)
-    (applied 36 (withHost r) d (replicate 10 0) inOrderRead (ap (λ (j : Judged). j .passed) q))
+    (applied 36 (withHost r) d (replicate 10 0) inOrderRead
+    (judged-passed 36 (withHost r) (replicate 10 0) inOrderRead readBook q))
 
 module _ (f g k : ℕ → ℕ) (d : Demand3For (withHost (invents f g k))) where
   abbrev inventing : System
   inventing = runs 36 (withHost (invents f g k)) (replicate 10 0) inOrderRead .system
 
-  judged : judge 36 (withHost (invents f g k)) (replicate 10 0) inOrderRead ≡ record { passed = true; book = readBook }
+  judged : T (judgedAs (judge 36 (withHost (invents f g k)) (replicate 10 0) inOrderRead) readBook)
   unfolding computing inOrderRead invents reporting readBook
-  judged = refl
+  judged = tt
 
   abbrev reported : ℕ → Answer
   reported n = Accepted (record { 0 = n }) (record { messages = f 1; bytes = g 1; completed = k 1 }) 1
@@ -270,7 +271,7 @@ lastOfWindow = manyOpens 32 (adds 31 0 [] ∷ seals ∷ shows 0 ∷ receives 0 �
 not-windowShort : Demand3For (withHost windowShort) → ⊥
 unfolding computing lastOfWindow manyOpens windowShort kind kindAt
 not-windowShort d =
-    let z : _≡_ {A = ℕ} 3 1 = ap (kindAt 0) (applied 36 _ d (replicate 4 0) lastOfWindow refl .answersMatch) in
+    let z : _≡_ {A = ℕ} 3 1 = ap (kindAt 0) (applied 36 _ d (replicate 4 0) lastOfWindow tt .answersMatch) in
     omega arith
 
 twice : List Event
@@ -280,7 +281,7 @@ twice = opens 2 0 1 ∷ adds 0 4 (9 ∷ []) ∷ seals ∷ shows 0 ∷ receives 0
 not-forgets : Demand3For (withHost forgets) → ⊥
 unfolding computing twice forgets
 not-forgets d =
-    let z : _≡_ {A = ℕ} 2 1 = applied 36 _ d (replicate 10 0) twice refl .acceptedOnce 0 refl in
+    let z : _≡_ {A = ℕ} 2 1 = applied 36 _ d (replicate 10 0) twice tt .acceptedOnce 0 refl in
     omega arith
 
 swapped : List Event
@@ -291,7 +292,7 @@ swapped =
 not-takesForOld : Demand3For (withHost takesForOld) → ⊥
 unfolding computing swapped takesForOld kind kindAt
 not-takesForOld d =
-    let z : _≡_ {A = ℕ} 2 1 = ap (kindAt 1) (applied 36 _ d (replicate 6 0) swapped refl .answersMatch) in
+    let z : _≡_ {A = ℕ} 2 1 = ap (kindAt 1) (applied 36 _ d (replicate 6 0) swapped tt .answersMatch) in
     omega arith
 
 runIn : Expected → ℕ
@@ -307,7 +308,7 @@ arrivedOne = opens 0 0 0 ∷ adds 0 0 [] ∷ seals ∷ shows 0 ∷ receives 0 �
 own-run : (r : Receiving) → Demand3For (withHost r)
     → map runIn (map seenAs (runs 36 (withHost r) (replicate 4 0) arrivedOne .system .answers)) ≡ 1 ∷ []
 unfolding computing arrivedOne runIn
-own-run r d = ap (map runIn) (applied 36 _ d (replicate 4 0) arrivedOne refl .answersMatch)
+own-run r d = ap (map runIn) (applied 36 _ d (replicate 4 0) arrivedOne tt .answersMatch)
 
 not-oneTooMany : Demand3For (withHost oneTooMany) → ⊥
 unfolding computing arrivedOne judgesRun withRun runIn
@@ -332,21 +333,20 @@ not-itsOwnOnly : Demand3For (withHost itsOwnOnly) → ⊥
 unfolding computing swapped judgesRun withRun runIn
 not-itsOwnOnly d =
     let z : _≡_ {A = ℕ} 1 2 =
-    ap (λ xs. runIn (getD xs 1 expectNoEffect)) (applied 36 _ d (replicate 6 0) swapped refl .answersMatch) in
+    ap (λ xs. runIn (getD xs 1 expectNoEffect)) (applied 36 _ d (replicate 6 0) swapped tt .answersMatch) in
     omega arith
 
 -- Of two messages one arrives: no completion yet.
 not-completesEarly : Demand3For (withHost completesEarly) → ⊥
 unfolding computing twice completesEarly
 not-completesEarly d =
-    let z : _≡_ {A = ℕ} 1 0 = ap (λ m. getD m 0 0) (applied 36 _ d (replicate 10 0) twice refl .memoryAgrees) in
+    let z : _≡_ {A = ℕ} 1 0 = ap (λ m. getD m 0 0) (applied 36 _ d (replicate 10 0) twice tt .memoryAgrees) in
     omega arith
 
 -- Both transactions are finished, and no completion is written.
-never-judged : judge 36 (withHost neverCompletes) (replicate 10 0) inOrderRead
-    ≡ record { passed = true; book = readBook }
+never-judged : T (judgedAs (judge 36 (withHost neverCompletes) (replicate 10 0) inOrderRead) readBook)
 unfolding computing inOrderRead neverCompletes readBook
-never-judged = refl
+never-judged = tt
 
 not-neverCompletes : Demand3For (withHost neverCompletes) → ⊥
 unfolding computing inOrderRead neverCompletes readBook
@@ -363,7 +363,7 @@ oneOfTwo =
 not-acksTwo : Demand3For (withAcknowledging acksTwo) → ⊥
 unfolding computing oneOfTwo acksTwo
 not-acksTwo d =
-    let z : _≡_ {A = ℕ} 2 1 = applied 36 _ d (replicate 6 0) oneOfTwo refl .releasedAgrees in
+    let z : _≡_ {A = ℕ} 2 1 = applied 36 _ d (replicate 6 0) oneOfTwo tt .releasedAgrees in
     omega arith
 
 -- The second acknowledgement called for is of frame 0 again, and not yet of frame 1.
@@ -375,7 +375,7 @@ repeated =
 not-silentOnAgain : Demand3For (withAcknowledging silentOnAgain) → ⊥
 unfolding computing repeated silentOnAgain
 not-silentOnAgain d =
-    let z : _≡_ {A = ℕ} 2 3 = applied 36 _ d (replicate 6 0) repeated refl .releasedAgrees in
+    let z : _≡_ {A = ℕ} 2 3 = applied 36 _ d (replicate 6 0) repeated tt .releasedAgrees in
     omega arith
 
 -- ---- cards
@@ -387,7 +387,7 @@ sealedOne = opens 0 0 0 ∷ adds 0 0 [] ∷ seals ∷ []
 not-releasesEarly : Demand3For (withSealing releasesEarly) → ⊥
 unfolding computing sealedOne releasesEarly
 not-releasesEarly d =
-    let z : _≡_ {A = ℕ} 0 1 = applied 36 _ d (replicate 4 0) sealedOne refl .releasedAccepted 0 (lit< tt) in
+    let z : _≡_ {A = ℕ} 0 1 = applied 36 _ d (replicate 4 0) sealedOne tt .releasedAccepted 0 (lit< tt) in
     omega arith
 
 acknowledgedOne : List Event
@@ -396,13 +396,13 @@ acknowledgedOne = opens 0 0 0 ∷ adds 0 0 [] ∷ seals ∷ shows 0 ∷ receives
 not-ignoresAcks : Demand3For (withReading ignoresAcks) → ⊥
 unfolding computing acknowledgedOne ignoresAcks
 not-ignoresAcks d =
-    let z : _≡_ {A = ℕ} 1 2 = applied 36 _ d (replicate 4 0) acknowledgedOne refl .releasedAgrees in
+    let z : _≡_ {A = ℕ} 1 2 = applied 36 _ d (replicate 4 0) acknowledgedOne tt .releasedAgrees in
     omega arith
 
 not-swapsIds : Demand3For (withCardOpening swapsIds) → ⊥
 unfolding computing inOrder swapsIds kind kindAt
 not-swapsIds d =
-    let z : _≡_ {A = ℕ} 3 1 = ap (kindAt 0) (applied 36 _ d (replicate 10 0) inOrder refl .answersMatch) in
+    let z : _≡_ {A = ℕ} 3 1 = ap (kindAt 0) (applied 36 _ d (replicate 10 0) inOrder tt .answersMatch) in
     omega arith
 
 sealedTwo : List Event
@@ -418,7 +418,7 @@ not-showsOther : Demand3For (withShowing showsOther) → ⊥
 unfolding computing sealedTwo showsOther countIn
 not-showsOther d =
     let z : _≡_ {A = ℕ} 1 0 =
-    ap (λ xs. countIn (getD xs 0 expectNoEffect)) (applied 36 _ d (replicate 6 0) sealedTwo refl .answersMatch) in
+    ap (λ xs. countIn (getD xs 0 expectNoEffect)) (applied 36 _ d (replicate 6 0) sealedTwo tt .answersMatch) in
     omega arith
 
 -- Two messages are added of a transaction that takes one.
@@ -428,7 +428,7 @@ oneOver = opens 1 0 1 ∷ adds 0 4 [] ∷ seals ∷ adds 0 4 [] ∷ []
 not-opensLarger : Demand3For (withOpening opensLarger) → ⊥
 unfolding computing oneOver opensLarger
 not-opensLarger d =
-    let z : 2 ≤ 1 = applied 36 _ d (replicate 4 0) oneOver refl .noneOver 0 (lit< tt) in
+    let z : 2 ≤ 1 = applied 36 _ d (replicate 4 0) oneOver tt .noneOver 0 (lit< tt) in
     omega arith
 
 -- A card that adds nothing meets demand 3: the demand asks nothing to be sent. (Nor does it speak of the numbers that
