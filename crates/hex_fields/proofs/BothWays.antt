@@ -118,7 +118,8 @@ unhex-hex (b ∷ bs) rest f =
     let low = value-digit (b % 16) (omega arith) in
     let ih = unhex-hex bs rest (bytes-tail b bs f) in
     let e : b / 16 * 16 + b % 16 ≡ b = omega arith in
-    rw (high, low, ih, lt-ltb (b / 16) 16 (omega arith), lt-ltb (b % 16) 16 (omega arith), e)
+    rw (high, low, ih, lt-ltb (b / 16) 16 (omega arith), lt-ltb (b % 16) 16 (omega arith))
+    (ap (λ (x : ℕ). some (x ∷ bs)) e)
 
 -- what a text begins with where it begins with bytes and a newline
 pub record Spelt (n : ℕ) (text bs : List ℕ) : Type 0 where

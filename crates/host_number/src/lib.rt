@@ -32,7 +32,8 @@ pub fn accept(words: &mut [u64], number: FrameNo, lowest: TransNo, closed: u32) 
 {
     let next = host_words::next(words);
     let d = number.distance(next);
-    let marked = word64::with_mark(host_words::marks(words), d as u32);
+    let marks = host_words::marks(words);
+    let marked = word64::with_mark(marks, d as u32);
     let run = host_run::run_within(marked, d);
     let past = word64::trailing_ones(marked);
     let head = Head {

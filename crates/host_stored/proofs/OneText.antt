@@ -290,5 +290,5 @@ unfolding bufferAs
 stored-returns version v p buffer t s e =
     let text : List ℕ = textAs version p in
     let n : storedAs version p buffer .length ≡ length text = stored-length version p buffer e in
-    rw (n, eq-eqb (storedAs version p buffer .refusal) 0 e, take-at text (drop (length text) buffer) (length text) refl)
+    rw (n, eq-eqb (storedAs version p buffer .refusal) 0 e, take-at text _ (length text) refl)
     (stored-reads version v p t s)

@@ -1,8 +1,10 @@
 -- `host_number::accept`: the mark and the move of the frame window, and the run on the marks before it moves.
 -- Assumes nothing.
-use mathlib.Core.Path.{_∙_}
+use mathlib.Core.Path.{_∙_, ap}
+use Prim.Native.Nat.{ℕ}
 use native.Mathlib.Omega.{arith}
 use Rattle.bitmap.proofs.Marks.{ones-le}
+use Rattle.host_run.specs.Counting.{runWithin}
 use Rattle.host_number.specs.Numbering.{acceptedHead, runOfAccepted}
 use borrow.Author.Needs.{needs}
 use Rattle.host_number.proofs.accept.Statement.{statement}
@@ -74,8 +76,8 @@ returns c =
     let read = marked .before .before .before in
     let stored = c .before .before .put-head in (
       counted .before .run-within .ensures
+          ∙ ap (λ (marks : ℕ). runWithin marks (read .distance .result)) (marked .with-mark .ensures)
           ∙ rw (
-            marked .with-mark .ensures,
             read .distance .ensures,
             marked .before .marks .ensures,
             read .before .next .ensures,
