@@ -1,11 +1,11 @@
 -- Demand 3 over restarts applied to a list that passes all premises, of a card 2 and a host 1; and one name that
 -- unfolds every definition that such a list runs through. Assumes nothing.
 use Prim.Native.Nat.{ℕ}
-use mathlib.Core.Path.{_≡_, ap}
-use mathlib.Core.Bool.{Bool, true, _&&_, and-eq-true-iff}
+use mathlib.Core.Path.{_≡_, refl}
+use mathlib.Core.Bool.{Bool, true, false, _&&_, and-eq-true-iff}
 use mathlib.Core.List.{List, []}
 use borrow.Author.Tests.{eqb-true}
-use lib.Dec.{eqb, lit<}
+use lib.Dec.{T, eqb, lit<}
 use Rattle.hex_fields.specs.Fields.{
   digitOf,
   valueOf,
@@ -36,7 +36,8 @@ use Rattle.host_stored.specs.Form.{
 use Rattle.delivery.specs.System.{System}
 use Rattle.delivery.specs.Book.{Book, emptyBook, bookOf}
 use Rattle.delivery.specs.Demand3.{allTyped, notTooLate, outcomeOf, Guarantees}
-use Rattle.delivery.proofs.Lists.Check.{writesAllowed, allowed-by, slotsOf}
+use Rattle.delivery.proofs.Lists.Same.{T-true, sameBook}
+use Rattle.delivery.proofs.Lists.Check.{writesAllowed, allowed-by, slotsOf, judged-as}
 use Rattle.delivery.proofs.Lists.Computing.{computing}
 use Rattle.delivery_restarts.specs.Restarts.{
   RestartEnds,
@@ -89,11 +90,11 @@ judge limit e memory list =
     }
 
 pub applied : (limit : ℕ) (e : RestartEnds) → OverRestartsFor e → (memory : List ℕ) (list : List Call)
-    → judge limit e memory list .passed ≡ true → judge limit e memory list .current ≡ true
+    → T (judge limit e memory list .passed) → T (judge limit e memory list .current)
     → Guarantees (outcomeOf (ended limit e memory list)) (booked limit e memory list)
 unfolding OverRestartsFor judge
 applied limit e d memory list p current =
-    let g = and-eq-true-iff _ _ .0 p in
+    let g = and-eq-true-iff _ _ .0 (T-true _ p) in
     let o = and-eq-true-iff _ _ .0 (g .0) in
     let t = and-eq-true-iff _ _ .0 (g .1) in
     let k = and-eq-true-iff _ _ .0 (t .1) in
@@ -104,15 +105,42 @@ applied limit e d memory list p current =
       cardOpens = eqb-true _ _ (o .0);
       hostOpens = eqb-true _ _ (o .1);
     })
-    (t .0) (k .0) current (allowed-by (booked limit e memory list) (k .1))
+    (t .0) (k .0) (T-true _ current) (allowed-by (booked limit e memory list) (k .1))
 
-pub judged-book : (limit : ℕ) (e : RestartEnds) (memory : List ℕ) (list : List Call) (p c : Bool) (b : Book)
-    → judge limit e memory list ≡ record { passed = p; current = c; book = b } → booked limit e memory list ≡ b
+-- A list passes all premises and has this book: a test as well, which fails at the first number that differs.
+unfoldable pub judgedAs : Judged → Book → Bool
+judgedAs j b = j .current && (j .passed && sameBook (j .book) b)
+
+record Passed (j : Judged) (b : Book) : Type 0 where
+  passed-so : T (j .passed)
+  current-so : T (j .current)
+  book-is : j .book ≡ b
+
+judged-so : (j : Judged) (b : Book) → T (judgedAs j b) → Passed j b
+unfolding judgedAs
+judged-so j b t = go (j .current) refl t
+  where
+    go : (c : Bool) → j .current ≡ c → T (c && (j .passed && sameBook (j .book) b)) → Passed j b
+    go true e h =
+        let g = judged-as (j .passed) (j .book) b h in
+        record { passed-so = g .0; current-so = rw e tt; book-is = g .1 }
+    go false e h = absurd h
+
+pub judged-holds : (limit : ℕ) (e : RestartEnds) → OverRestartsFor e → (memory : List ℕ) (list : List Call) (b : Book)
+    → T (judgedAs (judge limit e memory list) b)
+    → Guarantees (outcomeOf (ended limit e memory list)) (booked limit e memory list)
+judged-holds limit e d memory list b t =
+    let k = judged-so (judge limit e memory list) b t in
+    applied limit e d memory list (k .passed-so) (k .current-so)
+
+pub judged-book : (limit : ℕ) (e : RestartEnds) (memory : List ℕ) (list : List Call) (b : Book)
+    → T (judgedAs (judge limit e memory list) b) → booked limit e memory list ≡ b
 unfolding judge
-judged-book limit e memory list p c b q = ap (λ (j : Judged). j .book) q
+judged-book limit e memory list b t = judged-so (judge limit e memory list) b t .book-is
 
 unfoldable pub restarting : Unit {0}
 unfolding computing digitOf valueOf hex unhex laid numbersFrom total lineOf linesOf lineLength readLine readLines
     readAll opensFrom textAs storedAs bufferAs emptyTable tableFrom headFine openFine opensFine readAs keptBy returned
     siteStep siteAfter shownBy initialSite eventsIn observationsIn acceptances nothingSince nothingAcceptedSince judge
+    judgedAs
 restarting = tt

@@ -5,6 +5,7 @@ use native.Mathlib.Omega.{arith}
 use mathlib.Core.Path.{_≡_, refl, sym, ap, _∙_, subst}
 use mathlib.Core.Bool.{true, false}
 use mathlib.Core.List.{List, [], _∷_, _++_, map}
+use lib.Dec.{T}
 use lib.ListN.{length, replicate}
 use Rattle.bitmap.specs.Marks.{leading}
 use Rattle.octets.specs.Octets.{little}
@@ -56,9 +57,9 @@ use Rattle.delivery_restarts.proofs.Computing.{
   ended,
   showing,
   booked,
-  Judged,
   judge,
-  applied,
+  judgedAs,
+  judged-holds,
   judged-book,
   restarting,
 }
@@ -118,9 +119,9 @@ written = record {
       ∷ expectAgain 1 2 ∷ [];
 }
 
-judged : judge 36 specifiedEnds memory restarted ≡ record { passed = true; current = true; book = written }
+judged : T (judgedAs (judge 36 specifiedEnds memory restarted) written)
 unfolding restarting restarted written
-judged = refl
+judged = tt
 
 -- Which storings and returns were refused: 19, and 15 for the return to nothing.
 shown-are : restartsIn (showing 36 specifiedEnds memory restarted)
@@ -130,13 +131,11 @@ unfolding restarting restarted restartsIn
 shown-are = refl
 
 book-is : booked 36 specifiedEnds memory restarted ≡ written
-book-is = judged-book 36 specifiedEnds memory restarted true true written judged
+book-is = judged-book 36 specifiedEnds memory restarted written judged
 
 holds : Guarantees (outcomeOf (ended 36 specifiedEnds memory restarted))
     (booked 36 specifiedEnds memory restarted)
-holds =
-    applied 36 specifiedEnds demand3-over-restarts memory restarted (ap (λ (j : Judged). j .passed) judged)
-    (ap (λ (j : Judged). j .current) judged)
+holds = judged-holds 36 specifiedEnds demand3-over-restarts memory restarted written judged
 
 -- Each frame is accepted once over all restarts, and memory is as if there had been none.
 answered : map seenAs (ended 36 specifiedEnds memory restarted .answers)

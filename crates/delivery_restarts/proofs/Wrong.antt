@@ -38,19 +38,19 @@ comesAgain buffer =
 not-storesWhatFits : OverRestartsFor (withStore storesWhatFits) → ⊥
 unfolding restarting comesAgain storesWhatFits kind kindAt
 not-storesWhatFits d =
-    let z : _≡_ {A = ℕ} 3 2 = ap (kindAt 1) (applied 36 _ d memory (comesAgain 79) refl refl .answersMatch) in
+    let z : _≡_ {A = ℕ} 3 2 = ap (kindAt 1) (applied 36 _ d memory (comesAgain 79) tt tt .answersMatch) in
     omega arith
 
 not-readsNone : OverRestartsFor (withStore (withRestoring readsNone)) → ⊥
 unfolding restarting comesAgain readsNone kind kindAt
 not-readsNone d =
-    let z : _≡_ {A = ℕ} 3 2 = ap (kindAt 1) (applied 36 _ d memory (comesAgain 80) refl refl .answersMatch) in
+    let z : _≡_ {A = ℕ} 3 2 = ap (kindAt 1) (applied 36 _ d memory (comesAgain 80) tt tt .answersMatch) in
     omega arith
 
 not-comesFresh : OverRestartsFor (withStore (withRestoring (rereads comesFresh))) → ⊥
 unfolding restarting comesAgain rereads comesFresh
 not-comesFresh d =
-    let z : _≡_ {A = ℕ} 2 1 = applied 36 _ d memory (comesAgain 80) refl refl .acceptedOnce 0 refl in
+    let z : _≡_ {A = ℕ} 2 1 = applied 36 _ d memory (comesAgain 80) tt tt .acceptedOnce 0 refl in
     omega arith
 
 -- The second message comes after the return, and completes the transaction.
@@ -63,7 +63,7 @@ completedAfter =
 not-forgetsOpen : OverRestartsFor (withStore (withRestoring (rereads forgetsOpen))) → ⊥
 unfolding restarting completedAfter rereads forgetsOpen
 not-forgetsOpen d =
-    let z : _≡_ {A = ℕ} 0 1 = applied 36 _ d memory completedAfter refl refl .completeAgree in
+    let z : _≡_ {A = ℕ} 0 1 = applied 36 _ d memory completedAfter tt tt .completeAgree in
     omega arith
 
 -- Frame 1 is received ahead, and comes once more after the return.
@@ -76,7 +76,7 @@ aheadAgain =
 not-shiftsMarks : OverRestartsFor (withStore (withRestoring (rereads shiftsMarks))) → ⊥
 unfolding restarting aheadAgain rereads shiftsMarks
 not-shiftsMarks d =
-    let z : _≡_ {A = ℕ} 2 1 = applied 36 _ d memory aheadAgain refl refl .acceptedOnce 1 refl in
+    let z : _≡_ {A = ℕ} 2 1 = applied 36 _ d memory aheadAgain tt tt .acceptedOnce 1 refl in
     omega arith
 
 -- Transaction 1 is complete before transaction 0, and the host comes back between the two. With both finished the card
@@ -98,5 +98,5 @@ windowAfter =
 not-forgetsClosed : OverRestartsFor (withStore (withRestoring (rereads forgetsClosed))) → ⊥
 unfolding restarting windowAfter manyOpens rereads forgetsClosed kind kindAt
 not-forgetsClosed d =
-    let z : _≡_ {A = ℕ} 3 1 = ap (kindAt 2) (applied 36 _ d memory windowAfter refl refl .answersMatch) in
+    let z : _≡_ {A = ℕ} 3 1 = ap (kindAt 2) (applied 36 _ d memory windowAfter tt tt .answersMatch) in
     omega arith

@@ -204,7 +204,7 @@ applied limit e d memory events p =
 unfoldable pub judgedAs : Judged → Book → Bool
 judgedAs j b = j .passed && sameBook (j .book) b
 
-judged-as : (passed : Bool) (book b : Book) → T (passed && sameBook book b) → T passed × (book ≡ b)
+pub judged-as : (passed : Bool) (book b : Book) → T (passed && sameBook book b) → T passed × (book ≡ b)
 judged-as true book b t = (tt, same-book book b (T-true (sameBook book b) t))
 judged-as false book b t = absurd t
 
