@@ -89,12 +89,12 @@ module _ (p : Pair) (num d : ℕ) (d-is : d ≡ distance frameSpace (p .next .0)
   unfolding runFrom settled
   run-some s =
       let z : d ≡ distance frameSpace (p .next .0) (advance frameSpace num 0) = place 0 d (omega (arith, inside)) in
-      leading-ge each 255 1 (omega arith) (λ i h. let q : i ≡ 0 = omega arith in rw (q, ← z, d-is) s)
+      leading-ge each _ 1 (omega arith) (λ i h. let q : i ≡ 0 = omega arith in rw (q, ← z, d-is) s)
 
   -- behind: all up to the next one, and the marks that are set from there on
   pub run-behind : 32768 ≤ d → runFrom p num ≡ min 255 (frameSpace - d + trailingOnes 64 (p .marks))
   unfolding runFrom trailingOnes
-  run-behind h = leading-is each 255 (min 255 (frameSpace - d + ones)) (omega arith)
+  run-behind h = leading-is each _ (min 255 (frameSpace - d + ones)) (omega arith)
       (λ i l. holds i (omega arith) (decLt i (frameSpace - d)))
       (λ l.
       let r : min 255 (frameSpace - d + ones) ≡ frameSpace - d + ones = omega arith in
@@ -126,7 +126,7 @@ module _ (p : Pair) (num d : ℕ) (d-is : d ≡ distance frameSpace (p .next .0)
   -- in the window: the marks that are set from its own on; the window's end is ahead
   pub run-window : d < 64 → runFrom p num ≡ trailingOnes (64 - d) (p .marks / 2 ^ d)
   unfolding runFrom trailingOnes
-  run-window h = leading-is each 255 ones (omega (arith, few))
+  run-window h = leading-is each _ ones (omega (arith, few))
       (λ i l. window i (omega (arith, few)) ∙ leading-holds (mark (p .marks / 2 ^ d)) (64 - d) i l)
       (λ l. stops (decLt ones (64 - d)))
     where
