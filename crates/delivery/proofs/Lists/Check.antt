@@ -219,3 +219,15 @@ pub judged-book : (limit : ℕ) (e : Implementation) (memory : List ℕ) (events
 unfolding judge judgedAs
 judged-book limit e memory events b t =
     judged-as (passes limit e memory events) (booked limit e memory events) b t .1
+
+-- Demand 3 read over a list that passes, with the book written out.
+pub record Read (limit : ℕ) (e : Implementation) (memory : List ℕ) (events : List Event) (b : Book) : Type 0 where
+  pub guaranteed : Guarantees (outcomeOf (runs limit e memory events .system)) (booked limit e memory events)
+  pub bookIs : booked limit e memory events ≡ b
+
+pub read-by : (limit : ℕ) (e : Implementation) → Demand3For e → (memory : List ℕ) (events : List Event) (b : Book)
+    → T (judgedAs (judge limit e memory events) b) → Read limit e memory events b
+read-by limit e d memory events b t = record {
+  guaranteed = applied limit e d memory events (judged-passed limit e memory events b t);
+  bookIs = judged-book limit e memory events b t;
+}

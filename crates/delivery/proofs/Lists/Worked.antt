@@ -7,7 +7,7 @@ use native.Mathlib.Omega.{arith}
 use mathlib.Core.Path.{_≡_, refl, sym, ap, _∙_, subst}
 use mathlib.Core.Bool.{true, false}
 use mathlib.Core.List.{List, [], _∷_, _++_, map, List·Memᴰ·head}
-use lib.Dec.{T, lit≤, lit<}
+use lib.Dec.{lit≤, lit<}
 use lib.ListN.{length, replicate, getD}
 use Rattle.bitmap.specs.Marks.{leading}
 use Rattle.octets.specs.Octets.{little}
@@ -72,7 +72,7 @@ use Rattle.delivery.specs.Demand3.{
   WhenAllFinished,
 }
 use Rattle.delivery.proofs.Demand.{demand3}
-use Rattle.delivery.proofs.Lists.Check.{runs, booked, judge, applied, judgedAs, judged-passed, judged-book}
+use Rattle.delivery.proofs.Lists.Check.{runs, booked, Read, read-by}
 use Rattle.delivery.proofs.Lists.Computing.{computing}
 
 abbrev message : ℕ → ℕ → List ℕ → MessageRecord
@@ -140,15 +140,15 @@ written = record {
       ∷ expectAgain 0 3 ∷ expectNoEffect ∷ expectNoEffect ∷ [];
 }
 
-judged : T (judgedAs (judge 36 specified memory events) written)
+read : Read 36 specified memory events written
 unfolding computing events written
-judged = tt
+read = read-by 36 specified demand3 memory events written tt
 
 book-is : book ≡ written
-book-is = judged-book 36 specified memory events written judged
+book-is = read .bookIs
 
 holds : Guarantees (outcomeOf (runs 36 specified memory events .system)) book
-holds = applied 36 specified demand3 memory events (judged-passed 36 specified memory events written judged)
+holds = read .guaranteed
 
 both-finished : (i : ℕ) → i < length (written .transactions) → finished written i ≡ true
 unfolding written finished allMessagesIn messagesIn ofTransaction leading needed
@@ -233,15 +233,15 @@ written₂ = record {
       ∷ expectAgain 0 1 ∷ [];
 }
 
-judged₂ : T (judgedAs (judge 64 specified memory₂ partway) written₂)
+read₂ : Read 64 specified memory₂ partway written₂
 unfolding computing partway written₂
-judged₂ = tt
+read₂ = read-by 64 specified demand3 memory₂ partway written₂ tt
 
 book-is₂ : book₂ ≡ written₂
-book-is₂ = judged-book 64 specified memory₂ partway written₂ judged₂
+book-is₂ = read₂ .bookIs
 
 holds₂ : Guarantees (outcomeOf (runs 64 specified memory₂ partway .system)) book₂
-holds₂ = applied 64 specified demand3 memory₂ partway (judged-passed 64 specified memory₂ partway written₂ judged₂)
+holds₂ = read₂ .guaranteed
 
 sealed-four : length (book₂ .frames) ≡ 4
 unfolding written₂
@@ -330,15 +330,15 @@ written₃ = record {
       ∷ expectAgain 0 4 ∷ [];
 }
 
-judged₃ : T (judgedAs (judge 36 specified memory joined) written₃)
+read₃ : Read 36 specified memory joined written₃
 unfolding computing joined written₃
-judged₃ = tt
+read₃ = read-by 36 specified demand3 memory joined written₃ tt
 
 book-is₃ : book₃ ≡ written₃
-book-is₃ = judged-book 36 specified memory joined written₃ judged₃
+book-is₃ = read₃ .bookIs
 
 holds₃ : Guarantees (outcomeOf (runs 36 specified memory joined .system)) book₃
-holds₃ = applied 36 specified demand3 memory joined (judged-passed 36 specified memory joined written₃ judged₃)
+holds₃ = read₃ .guaranteed
 
 answered₃ : map seenAs (answersTo 36 memory joined)
     ≡ expectAccepted 0 (record { messages = 1; bytes = 1; completed = 0 }) 1
