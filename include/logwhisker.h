@@ -11,7 +11,8 @@
  * Lent buffers. A pointer comes with the number of bytes there and needs no
  * alignment; with length 0 it may be NULL. What a call writes may not overlap
  * anything else lent to that call. Any bytes and any length may be lent: what is
- * not right is refused, and a refusal leaves state and buffers as they were.
+ * not right is refused, and a refusal leaves state and buffers as they were; only a
+ * refused opening, or a text that is refused, leaves a fresh end with both IDs 0.
  *
  * Threads. Calls that share no object and no buffer that one of them writes may
  * run at the same time. Nothing else is locked or needs to be.
@@ -538,7 +539,8 @@ static inline void lw_replay_open(lw_replay *replay)
  * It takes the bytes through the first newline and returns LW_LINE_ANSWERED with the
  * answer of that line. Without a newline, or once 1,000,000 lines are answered, it
  * takes all and returns LW_NO_LINE. The caller feeds what was not taken again. Once
- * closed, it takes nothing and returns LW_REFUSED_REPLAY_CLOSED. */
+ * closed, it takes nothing and returns LW_REFUSED_REPLAY_CLOSED. *taken is written each
+ * time, *answer only where a line is answered. */
 static inline uint32_t lw_replay_feed(lw_replay *replay, const uint8_t *fragment, size_t length,
                                       size_t *taken, lw_answer *answer)
 {
@@ -548,8 +550,9 @@ static inline uint32_t lw_replay_feed(lw_replay *replay, const uint8_t *fragment
 }
 
 /* Closes a replay, writes the totals, and returns LW_LINE_ANSWERED with the answer of
- * a last line without a newline if it has a character, or LW_NO_LINE. Once closed, it
- * writes nothing and returns LW_REFUSED_REPLAY_CLOSED. */
+ * a last line without a newline, if it has a character and fewer than 1,000,000 lines
+ * were answered; else LW_NO_LINE, and *answer stays as it was. Once closed, it writes
+ * nothing and returns LW_REFUSED_REPLAY_CLOSED. */
 static inline uint32_t lw_replay_close(lw_replay *replay, lw_answer *answer, lw_totals *totals)
 {
     return lw_raw_replay_close(replay->place, replay->host, replay->frame, replay->memory, answer,
