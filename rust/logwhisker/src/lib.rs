@@ -1,7 +1,8 @@
 //! Both ends of a DG/RDMA pair over the proved static library: a charging [`Host`], a
-//! [`Card`], the layout of a frame, the refusals, and the count of marks by which a
-//! window moves. Nothing is allocated and nothing is kept between calls but the words
-//! that each end owns; what a call reads or writes is lent to it.
+//! [`PlainHost`] that answers as it does, a [`Card`], a [`Replay`] from fragments, the
+//! layout of a frame, the refusals, and the count of marks by which a window moves.
+//! Nothing is allocated and nothing is kept between calls but what each of these owns;
+//! what else a call reads or writes is lent to it.
 //!
 //! ```
 //! use logwhisker::{Answer, Card, Chosen, Host};

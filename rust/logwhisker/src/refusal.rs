@@ -52,7 +52,7 @@ refusals! {
     DATA_OUTSIDE_MEMORY = 11,
     /// The completion would pass the end of memory.
     COMPLETION_OUTSIDE_MEMORY = 12,
-    /// An end was to be opened with ID 0.
+    /// An end was to be opened with ID 0, or a host stored that has one.
     ID_ZERO = 13,
     /// A replay line is not whole bytes in hexadecimal.
     BAD_LINE = 14,
@@ -120,7 +120,7 @@ impl Error for Refusal {}
 #[derive(Clone, Copy, Debug, PartialEq, Eq, Hash)]
 #[repr(u32)]
 pub enum Class {
-    /// Not the number of a refusal.
+    /// No refusal, or 15, 17 or 19, which have no class.
     None = 0,
     /// The frame as a whole: 1 to 6.
     Wire = 1,

@@ -56,8 +56,9 @@ impl Replay {
         Ok((taken, line_answer(said, &answer)?))
     }
 
-    /// Gives the answer of a last line that no newline ends, if it has a character, and
-    /// the totals. Once closed it is refused with 17.
+    /// Gives the answer of a last line that no newline ends, if it has a character and
+    /// fewer than 1,000,000 lines were answered, and the totals. Once closed it is refused
+    /// with 17.
     pub fn close(&mut self) -> Result<(Option<Answer>, Totals), Refusal> {
         let mut answer = [0; ANSWER_WORDS];
         let mut totals = [0; 3];

@@ -29,7 +29,7 @@ pub const DATA_OUTSIDE: u8 = 11;
 /// The completion would be written past the end of memory.
 pub const COMPLETION_OUTSIDE: u8 = 12;
 
-/// An end cannot be opened with an ID of 0.
+/// An end cannot be opened, nor a pair be stored, with an ID of 0 (R6).
 pub const ID_ZERO: u8 = 13;
 /// The line is not a whole number of bytes in hexadecimal.
 pub const BAD_LINE: u8 = 14;
@@ -60,7 +60,7 @@ pub const DATA_FOR_BARE: u8 = 27;
 #[derive(Clone, Copy, Debug, PartialEq, Eq, Hash)]
 #[repr(u32)]
 pub enum Class {
-    /// Not the number of a refusal.
+    /// No refusal, or one that the rules give no class.
     None = 0,
     /// The frame as a whole.
     Wire = 1,
