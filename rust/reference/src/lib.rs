@@ -1,6 +1,11 @@
 //! An independent implementation of the rules in plain Rust, to compare the
 //! proved library with. It favours being easy to read over being fast, shares
-//! nothing with the proved code and assumes nothing about the bytes it is given.
+//! no code with the proved one and assumes nothing about the bytes it is given.
+//!
+//! The rules say nothing of states that no run reaches. There both ends go by the
+//! words that a caller of the library keeps, and what such a state's answer shows
+//! is that the library treats any words as its definitions say, not that two
+//! readers of the rules agree.
 
 #![forbid(unsafe_code)]
 

@@ -42,8 +42,10 @@ pub enum Forbidden {
     Together(usize, usize),
 }
 
-/// Judges a list by the book after it. What a transaction writes is all it writes in
-/// the whole list, accepted or not, and its completion from its opening on (AMB-10).
+/// Judges a list by the book after it. What a transaction writes is here all it writes in
+/// the whole list, accepted or not, and its completion from its opening on. That asks for
+/// more than G3f and G3g, which speak of the writes that were made: a list that passes here
+/// keeps those as well.
 pub fn writes_allowed(book: &Book, memory: usize) -> Result<(), Forbidden> {
     let mut written: Vec<Vec<Range<u64>>> = Vec::new();
     for transaction in book.transactions() {
