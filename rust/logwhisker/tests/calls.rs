@@ -1,6 +1,6 @@
-//! Runs the C program `calls`, which is built over the installed header, on scripts and compares every answer with the
-//! independent one: both ends' answers, the frames handed out with their place in the
-//! slots, and digests of slots and memory. `LW_SEED` and `LW_SCRIPTS` choose the first
+//! Runs the C program `calls`, which is built over the installed header, on scripts and
+//! compares every answer with the independent one: both ends' answers, the frames handed
+//! out with their place in the slots, and digests of slots and memory. `LW_SEED` and `LW_SCRIPTS` choose the first
 //! seed and the number of scripts of each kind, `LW_CALLS` another program.
 
 mod programs;
@@ -17,8 +17,8 @@ use std::collections::BTreeSet;
 use std::io::{Read, Write};
 use std::thread;
 
-const STDIN: &[u8] = include_bytes!("../../reference/tests/data/calls/stdin");
-const STDOUT: &str = include_str!("../../reference/tests/data/calls/stdout");
+const STDIN: &[u8] = include_bytes!("../../../c/calls.stdin");
+const STDOUT: &str = include_str!("../../../c/calls.stdout");
 const WILD_LINES: usize = 8_000;
 const LIST_CALLS: usize = 600;
 const LONG_CALLS: usize = 400_000;

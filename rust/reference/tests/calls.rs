@@ -1,6 +1,6 @@
-//! The stored script for the program `calls`: the independent program gives the stored
-//! answers, and they have every refusal and every kind of answer among them. The script
-//! is made by `calls-sample`.
+//! The stored script for the program `calls`, which `calls-sample` makes: the independent
+//! program gives the stored answers, and they have every refusal and every kind of answer
+//! among them.
 
 use reference::script::Wild;
 use std::collections::BTreeMap;
@@ -8,8 +8,8 @@ use std::io::Write;
 use std::process::{Command, Stdio};
 use std::thread;
 
-const STDIN: &[u8] = include_bytes!("data/calls/stdin");
-const STDOUT: &str = include_str!("data/calls/stdout");
+const STDIN: &[u8] = include_bytes!("../../../c/calls.stdin");
+const STDOUT: &str = include_str!("../../../c/calls.stdout");
 
 /// What the program writes for this input.
 fn output_of(input: &'static [u8]) -> String {

@@ -1,5 +1,5 @@
-//! Writes a short script for the program `calls` and its answers, `stdin` and `stdout`
-//! in the folder given, to be stored as a test. Each line is put down with the answer
+//! Writes a short script for the program `calls` and its answers, `calls.stdin` and
+//! `calls.stdout` in the folder given, to be stored as a test. Each line is put down with the answer
 //! worked out by hand, which the reference has to give as well.
 
 #![forbid(unsafe_code)]
@@ -64,6 +64,8 @@ fn main() {
     stored(&mut script);
     questions(&mut script);
     no_form(&mut script);
+    marks(&mut script);
+    script.line("seal", "R 24");
 
     // The last line goes without its newline.
     script.input.pop();
@@ -75,8 +77,8 @@ fn main() {
     assert_eq!(output, script.answers);
     let folder = Path::new(&folder);
     fs::create_dir_all(folder).expect("the folder can be made");
-    fs::write(folder.join("stdin"), &script.input).expect("the input can be written");
-    fs::write(folder.join("stdout"), &output).expect("the output can be written");
+    fs::write(folder.join("calls.stdin"), &script.input).expect("the input can be written");
+    fs::write(folder.join("calls.stdout"), &output).expect("the output can be written");
     println!("{} lines", output.lines().count());
 }
 
@@ -479,5 +481,18 @@ fn no_form(script: &mut Script) {
     ] {
         script.line(line, "?");
     }
-    script.line("seal", "R 24");
+}
+
+/// Both ends of the count, and numbers of more bits than there are marks, or of none.
+fn marks(script: &mut Script) {
+    script.lines(&[
+        ("marks 0", "0"),
+        ("marks 1", "1"),
+        ("marks 11", "2"),
+        ("marks 9223372036854775807", "63"),
+        ("marks 18446744073709551615", "64"),
+        ("marks 18446744073709551614", "0"),
+        ("marks 18446744073709551616", "?"),
+        ("marks -1", "?"),
+    ]);
 }
