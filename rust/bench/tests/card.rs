@@ -123,24 +123,61 @@ fn openings_agree() {
     }
 }
 
-/// No step of the benchmark is refused, and turns go on past the end of the frame numbers.
+/// A card that must not refuse anything: a refused call takes next to no time.
+struct Unrefused(Card);
+
+fn unrefused(refusal: u32) -> u32 {
+    assert_eq!(refusal, 0, "refused");
+    refusal
+}
+
+impl CardEnd for Unrefused {
+    fn fresh(limit: usize, slots: &[u8]) -> Unrefused {
+        Unrefused(CardEnd::fresh(limit, slots))
+    }
+
+    fn open_transaction(&mut self, count: u16, address: u32, value: u32, number: &mut u32) -> u32 {
+        unrefused(self.0.open_transaction(count, address, value, number))
+    }
+
+    fn add(&mut self, slots: &mut [u8], transaction: u32, address: u32, data: &[u8]) -> u32 {
+        unrefused(self.0.add(slots, transaction, address, data))
+    }
+
+    fn seal(&mut self, slots: &[u8], number: &mut u16) -> u32 {
+        unrefused(self.0.seal(slots, number))
+    }
+
+    fn read(&mut self, frame: &[u8]) -> u32 {
+        unrefused(self.0.read(frame))
+    }
+
+    fn show(&self, slots: &[u8], number: u16, part: &mut [u64; 2]) -> u32 {
+        unrefused(self.0.show(slots, number, part))
+    }
+
+    fn choose(&self, slots: &[u8], lent: &[u8], part: &mut [u64; 3]) -> u32 {
+        unrefused(self.0.choose(slots, lent, part))
+    }
+}
+
+/// No step of the benchmark is refused, also where turns go on past the end of the frame
+/// numbers.
 #[test]
 fn benchmark_steps_are_done() {
     let data = vec![3; 2_000];
     for (name, steps) in STEPS {
         let mut slots = vec![0; SLOTS];
-        let mut card: Card = steps.begin(&mut slots);
-        let mut results = Vec::new();
-        for _ in 0..20 {
-            results.clear();
-            steps.turn(&mut card, &mut slots, &data, &mut |result| {
-                results.push(result)
-            });
+        let mut card: Unrefused = steps.begin(&mut slots);
+        let turns = 70_000usize.div_ceil(steps.times());
+        let mut results = 0;
+        for _ in 0..turns {
+            steps.turn(&mut card, &mut slots, &data, &mut |_| results += 1);
         }
-        assert!(results.len() >= steps.times(), "{name}");
+        assert!(results >= turns * steps.times(), "{name}");
         let mut part = [0; 2];
         // What is left to be shown, or nothing: none was lost on the way.
-        let held = CardEnd::show(&card, &slots, 0, &mut part) == 0;
+        let held = card.0.show(&slots, 0, &mut part) == 0;
         assert_eq!(held, name.contains("again"), "{name}");
     }
 }

@@ -66,10 +66,13 @@ fn time(shape: Shape, file: &Path, programs: [&Path; 2]) -> io::Result<()> {
             if turn > 0 {
                 times.push(time);
             }
+            assert!(output.status.success(), "{}", program.display());
             outputs.push(output.stdout);
         }
         assert!(outputs[0] == outputs[1], "the programs differ");
-        assert!(outputs[0].starts_with(b"A 0 "), "nothing was accepted");
+        let lines = outputs[0].split(|byte| *byte == b'\n');
+        let accepted = lines.filter(|line| line.starts_with(b"A ")).count();
+        assert_eq!(accepted, LINES, "not every line was accepted");
     }
     let mut results = [(0.0, 0.0); 2];
     for ((times, name), result) in times.iter_mut().zip(["plain", "proved"]).zip(&mut results) {
