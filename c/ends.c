@@ -831,6 +831,7 @@ static void check_coming_round(void)
 static void check_null(void)
 {
     lw_host host;
+    lw_plain plain;
     lw_card card;
     lw_answer answer;
     lw_part part;
@@ -841,6 +842,12 @@ static void check_null(void)
     check("refusal", 0, answer.refusal, LW_REFUSED_FRAME_TOO_SHORT);
     check("receive", 1, lw_host_receive(&host, whole_case, 38, NULL, 0, &answer), LW_REFUSED);
     check("refusal", 1, answer.refusal, LW_REFUSED_DATA_OUTSIDE_MEMORY);
+    check("plain host", 0, lw_plain_open(&plain, OWN, PEER), 0);
+    check("receive, plain", 0, lw_plain_receive(&plain, NULL, 0, NULL, 0, &answer), LW_REFUSED);
+    check("refusal, plain", 0, answer.refusal, LW_REFUSED_FRAME_TOO_SHORT);
+    check("receive, plain", 1, lw_plain_receive(&plain, whole_case, 38, NULL, 0, &answer),
+          LW_REFUSED);
+    check("refusal, plain", 1, answer.refusal, LW_REFUSED_DATA_OUTSIDE_MEMORY);
     check("card", 0, lw_card_open(&card, OWN, PEER, 34, NULL, 0), LW_REFUSED_BAD_LIMIT_OR_SLOTS);
     check("add", 0, lw_card_add(&card, NULL, 0, 0, 0, NULL, 0), LW_REFUSED_BAD_LIMIT_OR_SLOTS);
     check("seal", 0, lw_card_seal(&card, NULL, 0, &number), LW_REFUSED_BAD_LIMIT_OR_SLOTS);
@@ -942,13 +949,46 @@ static void check_wild_hosts(void)
     end_group("hosts of any words");
 }
 
+/* Lets the host receive messages of up to three transactions, each of which stays open. */
+static void open_some(lw_host *host, uint64_t *seed)
+{
+    enum { MESSAGES = 3, LENGTH = LW_FRAME_HEADER + MESSAGES * LW_MESSAGE_HEADER };
+    struct message messages[MESSAGES];
+    uint8_t memory[4] = {0};
+    uint8_t frame[LENGTH];
+    lw_description state;
+    lw_answer answer;
+
+    for (size_t k = 0; k < MESSAGES; k++) {
+        messages[k] = bare((uint32_t)(next_random(seed) % LW_TRANSACTION_WINDOW));
+        messages[k].count = MESSAGES + 1;
+    }
+    lay_out(frame, (uint32_t)(next_random(seed) % LW_FRAME_WINDOW), messages, MESSAGES);
+    lw_host_describe(host, &state);
+    put16(frame, (uint32_t)state.own);
+    put16(frame + 2, (uint32_t)state.peer);
+    check("messages of open ones", 0,
+          lw_host_receive(host, frame, LENGTH, memory, sizeof memory, &answer), LW_ACCEPTED);
+}
+
+static bool is_filled(const uint8_t *bytes, size_t length, uint8_t value)
+{
+    for (size_t i = 0; i < length; i++) {
+        if (bytes[i] != value)
+            return false;
+    }
+    return true;
+}
+
 /* Any host is stored or refused, and what can be read back is stored as the same text. */
 static void check_stored_hosts(void)
 {
+    enum { UNSTORED = 0xee };
     uint8_t *const text = with_closed_end(LW_LONGEST_TEXT);
     uint64_t seed = 4;
     unsigned long stored = 0;
     unsigned long read_back = 0;
+    unsigned long with_open = 0;
 
     for (unsigned long i = 0; i < 30000; i++) {
         uint8_t again[LW_LONGEST_TEXT];
@@ -956,10 +996,13 @@ static void check_stored_hosts(void)
         size_t second = 1;
         lw_description state, other;
         lw_host host;
-        if (i % 2 == 0)
+        memset(again, UNSTORED, sizeof again);
+        if (i % 2 == 0) {
             make_wild(host.words, LW_HOST_WORDS, &seed);
-        else
+        } else {
             lw_host_open(&host, (uint16_t)(i % 7), (uint16_t)(i % 5));
+            open_some(&host, &seed);
+        }
         lw_host_describe(&host, &state);
         const uint32_t refusal = lw_host_store(&host, text, LW_LONGEST_TEXT, &length);
         check("13 exactly for an ID 0", i, refusal,
@@ -969,14 +1012,19 @@ static void check_stored_hosts(void)
             stored++;
             check("too short", i, lw_host_store(&host, again, length - 1, &second),
                   LW_REFUSED_BUFFER_SHORT);
+            check("no length", i, second, 0);
+            check("nothing written", i, is_filled(again, sizeof again, UNSTORED), 1);
             const uint32_t read = lw_host_restore(&host, text, length);
             lw_host_describe(&host, &other);
             if (read == 0) {
                 read_back++;
+                with_open += state.open > 0;
                 check("same host", i, (unsigned)memcmp(&state, &other, sizeof state), 0);
                 check("stored again", i, lw_host_store(&host, again, sizeof again, &second), 0);
                 check("same length", i, second, length);
                 check("same text", i, (unsigned)memcmp(again, text, length), 0);
+                check("nothing past it", i,
+                      is_filled(again + length, sizeof again - length, UNSTORED), 1);
             } else {
                 check("15", i, read, LW_REFUSED_BAD_TEXT);
                 check("both IDs 0", i, other.own == 0 && other.peer == 0, 1);
@@ -985,10 +1033,12 @@ static void check_stored_hosts(void)
     }
     check("many were stored", stored, stored > 1000, 1);
     check("many were read back", read_back, read_back > 1000, 1);
+    check("many of them had open transactions", with_open, with_open > 1000, 1);
     lw_host host;
     check("no bytes", 0, lw_host_restore(&host, NULL, 0), LW_REFUSED_BAD_TEXT);
     size_t length = 1;
     check("no buffer", 0, lw_host_store(&host, NULL, 0, &length), LW_REFUSED_ID_ZERO);
+    check("no length", 0, length, 0);
     end_group("stored hosts");
 }
 
@@ -1060,42 +1110,42 @@ static void check_name(uint32_t number, const char *constant)
         const char want = constant[i] == '_' ? ' ' : (char)tolower((unsigned char)constant[i]);
         check("letter of a name", number, name[i] == want, 1);
     }
-    check("has a class", number, lw_refusal_class(number) != LW_CLASS_NONE, 1);
 }
 
-#define CHECK_NAME(number, constant)                                                              \
+#define CHECK_NAME(number, constant, class)                                                       \
     do {                                                                                          \
         check("constant", number, LW_REFUSED_##constant, number);                                 \
+        check("its class", number, lw_refusal_class(number), LW_CLASS_##class);                   \
         check_name(number, #constant);                                                            \
     } while (0)
 
 static void check_names(void)
 {
-    CHECK_NAME(1, FRAME_TOO_SHORT);
-    CHECK_NAME(2, FRAME_TOO_LONG);
-    CHECK_NAME(3, WRONG_ID);
-    CHECK_NAME(4, RESERVED_FLAG);
-    CHECK_NAME(5, PAST_FRAME_END);
-    CHECK_NAME(6, FRAME_AHEAD);
-    CHECK_NAME(7, TRANSACTION_OUTSIDE_WINDOW);
-    CHECK_NAME(8, TRANSACTION_CLOSED);
-    CHECK_NAME(9, TRANSACTION_DIFFERS);
-    CHECK_NAME(10, BARE_WITH_DATA);
-    CHECK_NAME(11, DATA_OUTSIDE_MEMORY);
-    CHECK_NAME(12, COMPLETION_OUTSIDE_MEMORY);
-    CHECK_NAME(13, ID_ZERO);
-    CHECK_NAME(14, BAD_LINE);
-    CHECK_NAME(20, TRANSACTION_WINDOW_FULL);
-    CHECK_NAME(21, FRAME_WINDOW_FULL);
-    CHECK_NAME(22, FRAME_FULL);
-    CHECK_NAME(23, NO_MESSAGE_LEFT);
-    CHECK_NAME(24, NOTHING_TO_SEAL);
-    CHECK_NAME(25, NOT_HELD);
-    CHECK_NAME(26, BAD_LIMIT_OR_SLOTS);
-    CHECK_NAME(27, DATA_FOR_BARE);
-    check("constant", 15, LW_REFUSED_BAD_TEXT, 15);
-    check("constant", 17, LW_REFUSED_REPLAY_CLOSED, 17);
-    check("constant", 19, LW_REFUSED_BUFFER_SHORT, 19);
+    CHECK_NAME(1, FRAME_TOO_SHORT, WIRE);
+    CHECK_NAME(2, FRAME_TOO_LONG, WIRE);
+    CHECK_NAME(3, WRONG_ID, WIRE);
+    CHECK_NAME(4, RESERVED_FLAG, WIRE);
+    CHECK_NAME(5, PAST_FRAME_END, WIRE);
+    CHECK_NAME(6, FRAME_AHEAD, WIRE);
+    CHECK_NAME(7, TRANSACTION_OUTSIDE_WINDOW, MESSAGE);
+    CHECK_NAME(8, TRANSACTION_CLOSED, MESSAGE);
+    CHECK_NAME(9, TRANSACTION_DIFFERS, MESSAGE);
+    CHECK_NAME(10, BARE_WITH_DATA, MESSAGE);
+    CHECK_NAME(11, DATA_OUTSIDE_MEMORY, MESSAGE);
+    CHECK_NAME(12, COMPLETION_OUTSIDE_MEMORY, MESSAGE);
+    CHECK_NAME(13, ID_ZERO, CALLER);
+    CHECK_NAME(14, BAD_LINE, CALLER);
+    CHECK_NAME(20, TRANSACTION_WINDOW_FULL, CARD);
+    CHECK_NAME(21, FRAME_WINDOW_FULL, CARD);
+    CHECK_NAME(22, FRAME_FULL, CARD);
+    CHECK_NAME(23, NO_MESSAGE_LEFT, CARD);
+    CHECK_NAME(24, NOTHING_TO_SEAL, CARD);
+    CHECK_NAME(25, NOT_HELD, CARD);
+    CHECK_NAME(26, BAD_LIMIT_OR_SLOTS, CARD);
+    CHECK_NAME(27, DATA_FOR_BARE, CARD);
+    CHECK_NAME(15, BAD_TEXT, NONE);
+    CHECK_NAME(17, REPLAY_CLOSED, NONE);
+    CHECK_NAME(19, BUFFER_SHORT, NONE);
     check("none", 0, strcmp(lw_refusal_name(0), "none") == 0, 1);
     for (uint32_t number = 1; number < 300; number++)
         check("unknown exactly without a class, and not 15, 17 or 19", number,
