@@ -10,7 +10,6 @@ use reference::wire::{Message, write_frame};
 fn check(word: u64) {
     let count = logwhisker::trailing_ones(word);
     assert_eq!(count as usize, marks::count(word), "{word:#018x}");
-    assert_eq!(logwhisker::raw::trailing_ones(word), count);
 }
 
 /// Every place of the first clear mark, with none, one or all of those above it clear.

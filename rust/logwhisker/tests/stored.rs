@@ -59,15 +59,25 @@ fn texts_good_and_damaged() {
 fn every_byte_in_every_place_of_a_text() {
     let text = "0101000200ffff0600000000000000ffffffff04000000\n\
                 ffffffff400000004433221103000100\n00000000080000000900000002000100\n";
+    let (mut good, mut refused) = (0, 0);
     for place in 0..text.len() {
+        let mut others = 0;
         for byte in 0..=255 {
             let mut other = text.as_bytes().to_vec();
             other[place] = byte;
-            read(&other);
+            others += u32::from(read(&other));
         }
+        // One of them is the text itself.
+        assert!((1..=16).contains(&others), "{others} at {place}");
+        good += others;
+        refused += 256 - others;
         read(&text.as_bytes()[..place]);
         read(&text.as_bytes()[place..]);
     }
+    assert!(
+        good > 500 && refused > 20_000,
+        "{good} read, {refused} refused"
+    );
 }
 
 #[test]

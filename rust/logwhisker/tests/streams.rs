@@ -234,8 +234,9 @@ fn failing_after(sent: &[u8]) -> File {
             fd >= 0 && grantpt(fd) == 0 && unlockpt(fd) == 0,
             "no terminal to be had"
         );
-        let name = CStr::from_ptr(ptsname(fd)).to_owned();
-        (File::from_raw_fd(fd), name)
+        let name = ptsname(fd);
+        assert!(!name.is_null(), "the terminal has no name");
+        (File::from_raw_fd(fd), CStr::from_ptr(name).to_owned())
     };
     let name = name.to_str().expect("a device has a plain name");
     let mut slave = OpenOptions::new()
