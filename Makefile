@@ -37,7 +37,8 @@ REPLAY := $(if $(filter 1,$(PLAIN)),replay_plain,replay)
 
 replay:
 	@mkdir -p target
-	@[ -x target/bin/$(REPLAY) ] || echo 'make replay: proves the replay and all below it first, which takes some minutes' >&2
+	@[ -x target/bin/$(REPLAY) ] || \
+		echo 'make replay: proves the replay and all below it first, which takes some minutes' >&2
 	@rt check $(REPLAY) > target/replay.log 2>&1 || { cat target/replay.log; exit 1; }
 	@target/bin/$(REPLAY) < $(FRAMES)
 
@@ -76,7 +77,7 @@ soak:
 	$(MAKE) library calls
 	cd rust && cargo test --offline --locked --release -p logwhisker --test streams -- --include-ignored --nocapture
 	cd rust && LW_SEED=$(SEED) LW_INPUTS=12000000 LW_FRAMES=4000000 LW_LINES=20000000 LW_SCRIPTS=240 \
-		LW_LISTS=4000 LW_LONG_LISTS=10 LW_CALLS_OF_CARD=6000000 \
+		LW_LISTS=4000 LW_LONG_LISTS=10 LW_CALLS_OF_CARD=6000000 LW_TEXTS=600000 \
 		cargo test --offline --locked --release -p logwhisker -p reference --tests
 	@echo 'soak: all the same from seed $(SEED) on'
 
