@@ -24,7 +24,7 @@ pub struct Run {
 }
 
 /// Makes a list of about so many calls on these ends. If `drained`, it goes on until
-/// all its transactions are finished, as long as that takes.
+/// all its transactions are finished, which ends without a fault have to get to.
 pub fn simulate<E: Ends>(
     ends: &E,
     seed: u64,
@@ -64,6 +64,10 @@ pub fn simulate<E: Ends>(
         }
     }
     let breach = breach.or_else(|| system.finish().err());
+    assert!(
+        !drained || breach.is_some() || system.book().is_settled(),
+        "seed {seed}: not settled after {most} calls"
+    );
     let allowed = premises::writes_allowed(system.book(), setting.memory.len());
     assert_eq!(allowed, Ok(()), "seed {seed}: the list keeps no premise");
     Run {
