@@ -6,11 +6,11 @@ write as it is at exit, with a definition, over any input. So for each `pub fn`:
   if it returns something, an `ensures` with an equation whose left side is the result;
   for each parameter of type `&mut`, an `ensures` with an equation whose left side is that parameter at exit.
 An equation whose right side speaks of the result, or of anything at exit, does not count: two of them could lean on
-each other and say nothing. A relation that a file of specs/ defines counts where its definition equates: without a
-condition, or in both of two cases `a ≡ b → ..` and `a ≢ b → ..`; a relation that it names is read in its place. A
-result that is a struct is also known where every field of it is equated. What else is needed is an exemption with its
-reason (EXEMPT in tools/check-claims). A function or a parameter of a form that is not read here is a fault, so that
-none goes by unread.
+each other and say nothing. Nor does one under a condition, or one of a choice. A relation that a file of specs/ defines
+counts where its definition so equates: without a condition, or in both of two cases `a ≡ b → ..` and `a ≢ b → ..`; a
+relation that it names is read in its place. A result that is a struct is also known where every field of it is equated.
+What else is needed is an exemption with its reason (EXEMPT in tools/check-claims). A function or a parameter of a form
+that is not read here is a fault, so that none goes by unread.
 """
 import re
 
@@ -50,7 +50,7 @@ class Function:
         for kind, text in self.clauses:
             said = re.fullmatch(r"\s*λ\s*(\S+?)\.\s*⌜(.*)⌝\s*", text, flags=re.S)
             if kind == "ensures" and said:
-                for part in conjuncts(said.group(2)):
+                for part in filter(is_plain, conjuncts(said.group(2))):
                     sides = split_at(part, "≡")
                     if len(sides) == 2:
                         yield said.group(1), bare(sides[0]), bare(sides[1])
@@ -60,7 +60,7 @@ class Function:
         for kind, text in self.clauses:
             said = re.fullmatch(r"\s*λ\s*(\S+?)\.\s*⌜(.*)⌝\s*", text, flags=re.S)
             if kind == "ensures" and said:
-                for part in conjuncts(said.group(2)):
+                for part in filter(is_plain, conjuncts(said.group(2))):
                     name, *arguments = [bare(term) for term in split_at(part, " ")]
                     if re.fullmatch(r"[A-Z]\w*", name):
                         yield said.group(1), name, arguments
@@ -101,10 +101,15 @@ def bare(text):
     return text
 
 
+def is_plain(text):
+    """Whether a proposition is neither under a condition nor a choice."""
+    return len(split_at(text, "→")) == len(split_at(text, "⊎")) == 1
+
+
 def conjuncts(text):
-    """The parts of a proposition that × joins, at any depth."""
+    """The parts of a proposition that × joins, at any depth. One under a condition, or a choice, stays whole."""
     text = bare(text)
-    parts = split_at(text, "×")
+    parts = split_at(text, "×") if is_plain(text) else [text]
     return [text] if len(parts) == 1 else [c for part in parts for c in conjuncts(part)]
 
 
@@ -165,6 +170,8 @@ def cases(text, conditions, texts):
         # `(x : T) →` says for all x, which is no condition.
         yield from cases(parts[-1], conditions + tuple(c for c in named if not re.match(r"[\w' -]+ : ", c)), texts)
         return
+    if not is_plain(bare(text)):
+        return
     parts = split_at(bare(text), "×")
     if len(parts) > 1:
         for part in parts:
@@ -185,13 +192,16 @@ def replaced(text, terms):
     return re.sub(r"(?<![\w'.-])[\w'-]+", lambda m: terms.get(m.group(), m.group()), text)
 
 
-def determines(definition, at):
-    """Whether a relation's definition equates its parameter at this index, in every case."""
+def determines(definition, at, unknown):
+    """Whether a relation's definition equates its parameter at this index, in every case, with what is known: with
+    neither that parameter nor one at the unknown indices."""
     parameters, equations = definition
     subject = parameters[at] if at < len(parameters) else None
     if subject is None:
         return False
-    where = {c for c, left, right in equations if is_left(left, subject, []) and not speaks_of(right, subject)}
+    others = [parameters[i] for i in {at, *unknown} if i < len(parameters)]
+    equating = [(c, right) for c, left, right in equations if is_left(left, subject, [])]
+    where = {c for c, right in equating if not any(speaks_of(right, other) for other in others)}
     single = {c[0] for c in where if len(c) == 1}
     return () in where or any("≢" in c and c.replace("≢", "≡") in single for c in single)
 
@@ -200,9 +210,10 @@ def related(function, subject_of, relations, lets_off):
     """Whether a relation that the function promises equates the subject. subject_of gives it by the name of the
     result there; lets_off says of a relation whether its cases are all, though they are not each other's contrary."""
     for r, name, arguments in function.relations():
+        unknown = [at for at, argument in enumerate(arguments) if not is_given(argument, r)]
         for at, argument in enumerate(arguments):
             if argument in (subject_of(r), f"now {subject_of(r)}") and name in relations:
-                if all(determines(definition, at) for definition in relations[name]) or lets_off(name):
+                if all(determines(definition, at, unknown) for definition in relations[name]) or lets_off(name):
                     return True
     return False
 
