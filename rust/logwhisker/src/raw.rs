@@ -1,7 +1,7 @@
 //! The exported functions one by one, on numbers, slices and arrays, as the library has
 //! them: all unsafe code is here. A return value of 0 is success and any other the
-//! refusal's number, where a function does not say otherwise. The declarations are
-//! checked against the library by the tests alone.
+//! refusal's number, where a function does not say otherwise. No compiler compares the
+//! declarations with the library: tools/check-claims does.
 
 #![allow(unsafe_code)]
 
