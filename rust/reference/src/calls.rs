@@ -210,16 +210,11 @@ fn class(number: u32) -> &'static str {
 /// The pair: marks have bit i set for the number i past the next or lowest one.
 fn state(host: &Host) -> String {
     let ((own, peer), next, lowest) = (host.ids(), host.next(), host.lowest());
-    let accepted = (0..64u16).filter(|i| host.is_accepted(next.wrapping_add(*i)));
-    let marks: u64 = accepted.map(|i| 1 << i).sum();
-    let closed = (0..32u32).filter(|i| host.is_closed(lowest.wrapping_add(*i)));
-    let closed: u32 = closed.map(|i| 1 << i).sum();
+    let (marks, closed) = (host.marks(), host.closed_marks());
     let mut text = format!(
         "own {own} peer {peer} next {next} marks {marks:016x} lowest {lowest} closed {closed:08x}"
     );
-    let mut open: Vec<_> = host.open_transactions().iter().collect();
-    open.sort_by_key(|(number, _)| number.wrapping_sub(lowest));
-    for (number, entry) in open {
+    for (number, entry) in host.open_in_order() {
         let terms = entry.terms;
         let (address, value) = (terms.completion_address, terms.completion_value);
         let (count, received) = (terms.count, entry.received);

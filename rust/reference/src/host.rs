@@ -355,6 +355,26 @@ impl Host {
     pub fn closed_transactions(&self) -> &BTreeSet<u32> {
         &self.closed
     }
+
+    /// The accepted frames as marks: bit i is for the number i past the next one.
+    pub fn marks(&self) -> u64 {
+        let accepted = (0..64u16).filter(|i| self.is_accepted(self.next.wrapping_add(*i)));
+        accepted.map(|i| 1 << i).sum()
+    }
+
+    /// The complete transactions as marks: bit i is for the number i past the lowest one.
+    pub fn closed_marks(&self) -> u32 {
+        let closed = (0..32u32).filter(|i| self.is_closed(self.lowest.wrapping_add(*i)));
+        closed.map(|i| 1 << i).sum()
+    }
+
+    /// The open transactions with their numbers, the one nearest the lowest first.
+    pub fn open_in_order(&self) -> Vec<(u32, Open)> {
+        let open = self.open.iter().map(|(number, open)| (*number, *open));
+        let mut open: Vec<_> = open.collect();
+        open.sort_by_key(|(number, _)| number.wrapping_sub(self.lowest));
+        open
+    }
 }
 
 /// The bytes from `address` on, if memory has them all. The sum takes more than

@@ -2,9 +2,8 @@
 //! straight into their slot. It gives the same answers as the reference for every run from
 //! a fresh start, which a test beside it compares. A call gives 0 or the refusal's number.
 
-const FRAME_HEADER: usize = 10;
-const MESSAGE_HEADER: usize = 24;
-const LONGEST_FRAME: usize = 9_000;
+use super::host::{FRAME_HEADER, LONGEST_FRAME, MESSAGE_HEADER, copy, is_whole, next_header};
+
 const LEAST_LIMIT: usize = FRAME_HEADER + MESSAGE_HEADER;
 const SLOTS: usize = 64;
 const TRANSACTIONS: u32 = 32;
@@ -170,7 +169,7 @@ impl Card {
             data.len(),
         );
         let end = data_start + data.len();
-        super::host::copy(&mut slot[data_start..end], data);
+        copy(&mut slot[data_start..end], data);
         self.used = end;
         self.last = start;
         let entry = &mut self.table[place];
@@ -214,7 +213,7 @@ impl Card {
         if header[9] > 1 {
             return 4;
         }
-        if header[9] == 1 && !super::host::is_whole(frame, FRAME_HEADER) {
+        if header[9] == 1 && !is_whole(frame, FRAME_HEADER) {
             return 5;
         }
         let start = u16::from_le_bytes([header[6], header[7]]);
@@ -304,11 +303,6 @@ impl Card {
 #[inline(always)]
 fn ones(count: u32) -> u64 {
     u64::MAX.checked_shr(64 - count).unwrap_or(0)
-}
-
-#[inline(always)]
-fn next_header(data_end: usize) -> usize {
-    ((data_end - 3) & !7) + FRAME_HEADER
 }
 
 #[inline(always)]

@@ -2,9 +2,9 @@
 //! that reads and judges, one that writes, and nothing allocated for a frame. It gives
 //! the same answers as the reference, which a test beside it compares.
 
-const FRAME_HEADER: usize = 10;
-const MESSAGE_HEADER: usize = 24;
-const LONGEST_FRAME: usize = 9_000;
+pub(super) const FRAME_HEADER: usize = 10;
+pub(super) const MESSAGE_HEADER: usize = 24;
+pub(super) const LONGEST_FRAME: usize = 9_000;
 /// Messages of no bytes that fit in the longest frame.
 const MOST_MESSAGES: usize = (LONGEST_FRAME - FRAME_HEADER) / MESSAGE_HEADER;
 const FRAME_WINDOW: u16 = 64;
@@ -333,7 +333,7 @@ fn refused(number: u8) -> Answer {
 }
 
 #[inline(always)]
-fn next_header(data_end: usize) -> usize {
+pub(super) fn next_header(data_end: usize) -> usize {
     ((data_end - 3) & !7) + FRAME_HEADER
 }
 

@@ -159,17 +159,13 @@ pub fn answer_words(answer: Answer) -> [u64; ANSWER_WORDS] {
 
 fn description_of(host: &Host) -> [u64; DESCRIPTION_WORDS] {
     let ((own, peer), next, lowest) = (host.ids(), host.next(), host.lowest());
-    let mut words = vec![own.into(), peer.into(), next.into(), 0, lowest.into(), 0];
-    let accepted = (0..64u16).filter(|i| host.is_accepted(next.wrapping_add(*i)));
-    words[3] = accepted.map(|i| 1 << i).sum();
-    let closed = (0..32u32).filter(|i| host.is_closed(lowest.wrapping_add(*i)));
-    words[5] = closed.map(|i| 1 << i).sum();
-    let mut open: Vec<_> = host.open_transactions().iter().collect();
-    open.sort_by_key(|(number, _)| number.wrapping_sub(lowest));
+    let mut words = vec![own.into(), peer.into(), next.into(), host.marks()];
+    words.extend([u64::from(lowest), host.closed_marks().into()]);
+    let open = host.open_in_order();
     words.push(open.len() as u64);
     for (number, entry) in open {
         let terms = entry.terms;
-        words.extend([u64::from(*number), terms.completion_address.into()]);
+        words.extend([u64::from(number), terms.completion_address.into()]);
         words.extend([
             u64::from(terms.completion_value),
             terms.count.into(),

@@ -22,22 +22,15 @@ impl Host {
 
     /// The pair's text (R2 to R4), of any state.
     pub fn text(&self) -> String {
-        let accepted = (0..64u16).filter(|i| self.is_accepted(self.next.wrapping_add(*i)));
-        let marks: u64 = accepted.map(|i| 1 << i).sum();
-        let closed = (0..32u32).filter(|i| self.is_closed(self.lowest.wrapping_add(*i)));
-        let closed: u32 = closed.map(|i| 1 << i).sum();
         let mut first = vec![VERSION];
         first.extend(self.own.to_le_bytes());
         first.extend(self.peer.to_le_bytes());
         first.extend(self.next.to_le_bytes());
-        first.extend(marks.to_le_bytes());
+        first.extend(self.marks().to_le_bytes());
         first.extend(self.lowest.to_le_bytes());
-        first.extend(closed.to_le_bytes());
-        let mut open: Vec<_> = self.open.iter().collect();
-        open.sort_by_key(|(number, _)| number.wrapping_sub(self.lowest));
-        let open = open
-            .into_iter()
-            .map(|(number, open)| line_of(*number, open));
+        first.extend(self.closed_marks().to_le_bytes());
+        let open = self.open_in_order().into_iter();
+        let open = open.map(|(number, open)| line_of(number, &open));
         std::iter::once(first)
             .chain(open)
             .map(|bytes| spelt(&bytes))
