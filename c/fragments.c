@@ -34,19 +34,42 @@ static void say(const lw_answer *answer)
     }
 }
 
+/* An answer that nothing has written. */
+static lw_answer unwritten(void)
+{
+    lw_answer answer;
+    memset(&answer, 0x5a, sizeof answer);
+    return answer;
+}
+
+/* Says the answer of a line; where there is none, none may be written. */
+static void hear(unsigned long at, uint32_t reply, const lw_answer *answer)
+{
+    const lw_answer before = unwritten();
+    if (reply == LW_LINE_ANSWERED) {
+        say(answer);
+        return;
+    }
+    check("nothing is said of a line", at, reply, LW_NO_LINE);
+    check_bytes("answer as it was", at, answer, &before, sizeof before);
+}
+
 /* Feeds bytes until all are taken. */
 static void feed(const char *bytes, size_t length)
 {
     size_t from = 0;
     do {
-        lw_answer answer;
-        size_t taken = 0;
+        lw_answer answer = unwritten();
+        size_t taken = SIZE_MAX;
         const uint8_t *rest = bytes == NULL ? NULL : (const uint8_t *)bytes + from;
         uint32_t reply = lw_replay_feed(&replay, rest, length - from, &taken, &answer);
-        if (reply == LW_LINE_ANSWERED)
-            say(&answer);
-        else
-            check("nothing is said of a line", from, reply, LW_NO_LINE);
+        hear(from, reply, &answer);
+        if (reply == LW_LINE_ANSWERED && taken > 0 && taken <= length - from) {
+            check("the line's newline is taken", from, rest[taken - 1], '\n');
+        } else {
+            check("all is taken", from, taken, length - from);
+            return;
+        }
         from += taken;
     } while (from < length);
 }
@@ -61,13 +84,9 @@ static void start(void)
 /* Closes, and compares all that was said and the totals. */
 static void finish(unsigned long at, const char *want, lw_totals sums)
 {
-    lw_answer answer;
+    lw_answer answer = unwritten();
     lw_totals totals = { 7, 7, 7 };
-    uint32_t reply = lw_replay_close(&replay, &answer, &totals);
-    if (reply == LW_LINE_ANSWERED)
-        say(&answer);
-    else
-        check("closing says nothing of a line", at, reply, LW_NO_LINE);
+    hear(at, lw_replay_close(&replay, &answer, &totals), &answer);
     check("what was said", at, strcmp(said, want) == 0, 1);
     check_bytes("totals", at, &totals, &sums, sizeof sums);
 }
@@ -122,13 +141,11 @@ static void check_lines(void)
 static void check_closed(void)
 {
     lw_replay before;
-    lw_answer answer;
-    lw_answer untouched;
+    lw_answer answer = unwritten();
+    const lw_answer untouched = answer;
     lw_totals totals = { 7, 7, 7 };
     const lw_totals sevens = { 7, 7, 7 };
     size_t taken = 9;
-    memset(&answer, 0x5a, sizeof answer);
-    untouched = answer;
     start();
     feed(whole_case, sizeof whole_case - 1);
     finish(0, "A 0 1 4 1\n", one_frame);
@@ -136,8 +153,10 @@ static void check_closed(void)
     check("feeding", 0, lw_replay_feed(&replay, (const uint8_t *)"\n", 1, &taken, &answer),
           LW_REFUSED_REPLAY_CLOSED);
     check("taken", 0, taken, 0);
+    taken = 9;
     check("feeding nothing", 0, lw_replay_feed(&replay, NULL, 0, &taken, &answer),
           LW_REFUSED_REPLAY_CLOSED);
+    check("taken", 1, taken, 0);
     check("closing", 0, lw_replay_close(&replay, &answer, &totals), LW_REFUSED_REPLAY_CLOSED);
     check_bytes("state", 0, &replay, &before, sizeof replay);
     check_bytes("answer", 0, &answer, &untouched, sizeof answer);
