@@ -47,8 +47,8 @@ answersTo pair memory (line ∷ lines) =
     let rest = answersTo (r .pair) (r .memory) lines in
     record { answers = r .answer ∷ rest .answers; pair = rest .pair; memory = rest .memory }
 
--- The host of a replay has ID 1, its peer 2, and its memory starts as 4,096 zeros. Lines past the first 1,000,000 are not
--- answered.
+-- The host of a replay has ID 1 and its peer 2, and its memory starts as 4,096 zeros. Lines past the first 1,000,000
+-- get no answer.
 abbrev pub linesMost : ℕ
 linesMost = 1000000
 

@@ -1,6 +1,6 @@
 -- Whether two books are the same, as a test that the checker runs, with its soundness. Where two large books differ, a
 -- test is done at the first number that does, and an equation only after both are written out. Assumes nothing.
-use Prim.Native.Nat.{ℕ, zero, suc}
+use Prim.Native.Nat.{ℕ}
 use mathlib.Core.Path.{_≡_, refl, sym, ap, _∙_}
 use mathlib.Core.Bool.{Bool, true, false, _&&_, false≢true, and-eq-true-iff}
 use mathlib.Core.List.{List, [], _∷_}

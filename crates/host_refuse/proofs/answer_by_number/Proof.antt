@@ -32,7 +32,11 @@ unfolding numberAnswered
 returns-2 c =
     let cut = c .before .before in
     c .again .ensures
-    ∙ rw (← cut .before .refusal-of .ensures, eq-eqb (cut .before .refusal-of .result) 0 (cut .if1 .left), le-leb 32768 _ (c .before .if2 .taken))
+    ∙ rw (
+      ← cut .before .refusal-of .ensures,
+      eq-eqb (cut .before .refusal-of .result) 0 (cut .if1 .left),
+      le-leb 32768 _ (c .before .if2 .taken),
+    )
 
 again-requires-2 : tie.Need-again-requires-2
 again-requires-2 c κs = search needs

@@ -52,7 +52,8 @@ returns-2 c =
     let told =
     closed-bare (a .place .now) (pairOf (a .words .now)) (a .frame .now) (a .memory .now) (omega (arith, n))
     (sym (asked .has-last .ensures) ∙ none .if1 .left) _ _ (c .close2 .ensures) in
-    let left = closing-left (a .place .now) _ _ (c .close2 .ensures) (λ (p : List ℕ). p ∷ a .words .now ∷ a .memory .now ∷ []) in
+    let left =
+    closing-left (a .place .now) _ _ (c .close2 .ensures) (λ (p : List ℕ). p ∷ a .words .now ∷ a .memory .now ∷ []) in
     (told .0, (told .1, left))
 
 pub close-spec : {M : Type 1} → statement M
