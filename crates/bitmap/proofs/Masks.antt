@@ -6,7 +6,7 @@ use native.Mathlib.Decide.{decLt}
 use native.Mathlib.Omega.{arith}
 use mathlib.Core.Path.{_≡_, refl, sym, _∙_}
 use mathlib.Core.Logic.{⊎-elim}
-use mathlib.Core.Bool.{Bool, true, false, not, _&&_, _||_}
+use mathlib.Core.Bool.{Bool, true, false, not, _&&_, _||_, and-true, and-false}
 use borrow.Author.Tests.{lt-ltb, le-ltb, le-leb, lt-leb}
 use lib.Dec.{eqb, leb, ltb}
 use lib.Bits.{bitAnd, bitOr, and-shr, and-mod, and-lt, or-shr, or-mod}
@@ -163,14 +163,6 @@ between-is width start end =
 
     lower : ℕ
     lower = marksBelow width start
-
-    and-true : (x : Bool) → (x && true) ≡ x
-    and-true true = refl
-    and-true false = refl
-
-    and-false : (x : Bool) → (x && false) ≡ false
-    and-false true = refl
-    and-false false = refl
 
     go : (i : ℕ) → Dec (i < start) → (ltb i end && not (ltb i start)) ≡ (leb start i && ltb i end)
     go i (yes k) = rw (lt-ltb i start k, lt-leb start i k) (and-false (ltb i end))

@@ -2,6 +2,7 @@
 ghost use mathlib.Core.Path.{_≡_};
 ghost use Prim.Native.Nat.{_/_, _^_};
 ghost use Rattle.bitmap.specs.Marks.{mark, withMark, trailingOnes};
+ghost use Rattle.bitmap.specs.Masks.{marksBelow};
 
 pub fn is_marked(m: u32, i: u32) -> bool
     ensures { λ r. ⌜ r ≡ mark m i ⌝ }
@@ -36,4 +37,14 @@ pub fn trailing_ones(m: u32) -> u32
     ensures { λ r. ⌜ r ≡ trailingOnes 32 m ⌝ }
 {
     u32::trailing_zeros(!m)
+}
+
+// The word of all marks below end.
+pub fn below(end: u32) -> u32
+    ensures { λ r. ⌜ r ≡ marksBelow 32 end ⌝ }
+{
+    if end >= 32 {
+        return 4294967295;
+    }
+    (1 << end) - 1
 }

@@ -312,26 +312,26 @@ adding-keeps s t frame o f = go (takes s t) refl
         })
 
 -- frames are released, whichever they are
-module _ (s : Sendings) (base next : ℕ) (o : Orderly s) where
+module _ (s : Sendings) (from base : ℕ) (o : Orderly s) where
   ended : ℕ
-  ended = marksOf 32 (finishedBy s base next)
+  ended = marksOf 32 (finishedBy s from base)
 
   ended-past : (i : ℕ) → opened s ≤ i → mark ended i ≡ false
   unfolding ended finishedBy
-  ended-past i h = not-marked 32 (finishedBy s base next) i (rw (le-ltb i (opened s) h))
+  ended-past i h = not-marked 32 (finishedBy s from base) i (rw (le-ltb i (opened s) h))
 
   ended-fits : ended < 2 ^ 32
   unfolding ended
-  ended-fits = marksOf-lt 32 (finishedBy s base next)
+  ended-fits = marksOf-lt 32 (finishedBy s from base)
 
   abbrev gone : ℕ
   gone = trailingOnes 32 ended
 
-  less-open : opened (finishing s base next) ≡ opened s - gone
+  less-open : opened (finishing s from base) ≡ opened s - gone
   unfolding finishing passing distance advance ended
   less-open = omega (arith, o .next-fits, o .lowest-fits, run-most 32 (opened s) ended ended-past)
 
-  finishing-keeps : Orderly (finishing s base next)
+  finishing-keeps : Orderly (finishing s from base)
   unfolding finishing passing advance ended
   finishing-keeps =
       record {
@@ -501,7 +501,7 @@ reading-reachable c f r = go (eqb (refusalOf (readFrame (addressed (c .own) (c .
           opening = r .opening;
           building = still (r .building);
           window = acknowledging-keeps (c .window) (c .limit) (ackStart f) (ackCount f) (r .window);
-          sendings = finishing-keeps (c .sendings) (w .base .0) (w .next .0) (r .sendings);
+          sendings = finishing-keeps (c .sendings) (c .window .base .0) (w .base .0) (r .sendings);
         })
 
 -- ---- what is handed out

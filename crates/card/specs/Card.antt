@@ -187,7 +187,7 @@ acknowledged c start count =
       used = c .used;
       last = c .last;
       window = w;
-      sendings = finishing (c .sendings) (w .base .0) (w .next .0);
+      sendings = finishing (c .sendings) (c .window .base .0) (w .base .0);
     }
 
 -- Refusals 1 to 5, as the host reads a frame. Messages that come with acknowledgements are not the card's.

@@ -75,19 +75,19 @@ adding s t frame =
 
 -- ---- finishing
 
--- All its messages are added, and the frame with the latest of them is released: it is neither one of those from `base`
--- on that are sealed and not released nor the one being built, which will be `next`.
-unfoldable pub delivered : Sending → ℕ → ℕ → Bool
-delivered e base next =
-    eqb (e .added) (needed (e .count))
-    && ltb (distance frameSpace base next) (distance frameSpace base (e .frame .0))
+-- A step releases the frames from `from` up to but not including `base`. All messages of the transaction are added, and
+-- the frame with the latest of them is one of these; its other messages lie in frames sealed no later. (Had that frame
+-- been released earlier, the transaction would have been finished then.)
+unfoldable pub allReleased : Sending → ℕ → ℕ → Bool
+allReleased e from base =
+    eqb (e .added) (needed (e .count)) && inRange frameSpace from (distance frameSpace from base) (e .frame .0)
 
 -- The i-th transaction from the lowest unfinished one on is finished (a term of the rules): it is opened, and it was
--- finished before or is delivered now. What was finished stays so: a frame number that comes round decides nothing
--- anew, since `delivered` is asked in the same step that releases the frame.
+-- finished before or all its messages lie in released frames now. What was finished stays so: a frame number that comes
+-- round decides nothing anew, since `allReleased` is asked in the step that releases the frame.
 unfoldable pub finishedBy : Sendings → ℕ → ℕ → ℕ → Bool
-finishedBy s base next i =
-    ltb i (opened s) && (mark (s .finished) i || delivered (sendingAt s (s .lowest .0 + i)) base next)
+finishedBy s from base i =
+    ltb i (opened s) && (mark (s .finished) i || allReleased (sendingAt s (s .lowest .0 + i)) from base)
 
 -- The window moves past consecutive finished ones.
 unfoldable pub passing : Sendings → ℕ → Sendings
@@ -95,6 +95,6 @@ passing s finished =
     let m = moved transSpace 32 (s .lowest .0) finished in
     record { next = s .next; lowest = record { 0 = m .first }; finished = m .marks; table = s .table }
 
--- The frames before `base` are released, and `next` is the number of the frame being built.
+-- The frames from `from` up to but not including `base` are released.
 unfoldable pub finishing : Sendings → ℕ → ℕ → Sendings
-finishing s base next = passing s (marksOf 32 (finishedBy s base next))
+finishing s from base = passing s (marksOf 32 (finishedBy s from base))

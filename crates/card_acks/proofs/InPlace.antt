@@ -25,7 +25,7 @@ module _ (w : List ℕ) (h : Head) (head-is : h ≡ headOf (cardOf w)) where
       → acked ≡ marksOf 64 (acknowledgedBy (cardOf w .window) start count) → run ≡ trailingOnes 64 acked
       → moved ≡ acked / 2 ^ run
       → base .0 ≡ advance frameSpace (h .base .0) run
-      → finished ≡ marksOf 32 (finishedBy (cardOf w .sendings) (base .0) (h .next .0)) → gone ≡ trailingOnes 32 finished
+      → finished ≡ marksOf 32 (finishedBy (cardOf w .sendings) (h .base .0) (base .0)) → gone ≡ trailingOnes 32 finished
       → past ≡ finished / 2 ^ gone → lowest .0 ≡ advance transSpace (h .lowest .0) gone
       → cardOf left ≡ withHead (cardOf w) (record {
         own = h .own;

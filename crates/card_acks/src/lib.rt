@@ -19,8 +19,7 @@ fn acknowledge(words: &mut [u64], start: FrameNo, count: u8)
     let lowest = h.lowest;
     let run = word64::trailing_ones(acked);
     let base = old.advance(run as u16);
-    let building = h.next;
-    let finished = card_finish::finished_marks(words, base, building);
+    let finished = card_finish::finished_marks(words, old, base);
     let gone = word32::trailing_ones(finished);
     let mut next = h;
     next.acked = word64::shifted(acked, run);

@@ -1,8 +1,8 @@
 -- Runs of bits against the test of one frame after another, and what is read of the words against the definitions of
 -- the card that they hold.
 -- Assumes nothing.
-use mathlib.Core.Path.{_≡_, refl, sym, _∙_}
-use mathlib.Core.Bool.{Bool, true, false, _&&_, _||_}
+use mathlib.Core.Path.{_≡_, sym, _∙_}
+use mathlib.Core.Bool.{Bool, _&&_, _||_, or-false, and-comm}
 use mathlib.Core.List.{List}
 use Prim.Native.Nat.{ℕ, _+_, _-_, _≤_, _<_}
 use native.Mathlib.Nat.{lt-of-le-of-lt}
@@ -22,16 +22,6 @@ use Rattle.card.specs.Window.{unreleased, acknowledgedBy}
 use Rattle.card_words.specs.declared.Head.{Head}
 use Rattle.card_words.specs.Words.{cardOf, headOf}
 use Rattle.card_cover.specs.Covering.{coveredBy}
-
-or-false : (x : Bool) → (x || false) ≡ x
-or-false true = refl
-or-false false = refl
-
-and-comm : (x y : Bool) → (x && y) ≡ (y && x)
-and-comm true true = refl
-and-comm true false = refl
-and-comm false true = refl
-and-comm false false = refl
 
 -- ---- the range of an acknowledgement as runs of bits
 

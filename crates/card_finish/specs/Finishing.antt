@@ -1,10 +1,15 @@
--- A part of what finishing transactions is defined by, under a name that contracts can say.
+-- Parts of what finishing transactions is defined by, under names that contracts can say.
 use Prim.Native.Nat.{ℕ, _+_}
-use mathlib.Core.Bool.{Bool, _||_}
+use mathlib.Core.Bool.{Bool, _&&_, _||_}
+use lib.Dec.{ltb}
 use Rattle.bitmap.specs.Marks.{mark}
 use Rattle.card.specs.declared.Sendings.{Sendings}
-use Rattle.card.specs.Sendings.{sendingAt, delivered}
+use Rattle.card.specs.Sendings.{opened, sendingAt, allReleased}
 
--- Whether an opened transaction, the i-th from `lowest` on, is finished: it was before, or it is delivered now.
+-- Whether the i-th transaction from the lowest unfinished one on is opened and was finished before.
+unfoldable pub finishedBefore : Sendings → ℕ → Bool
+finishedBefore s i = ltb i (opened s) && mark (s .finished) i
+
+-- Whether an opened transaction, the i-th from `lowest` on, is finished: it was before, or it is by this step.
 unfoldable pub finishedNow : Sendings → ℕ → ℕ → ℕ → ℕ → ℕ → Bool
-finishedNow s finished lowest base next i = mark finished i || delivered (sendingAt s (lowest + i)) base next
+finishedNow s finished lowest from base i = mark finished i || allReleased (sendingAt s (lowest + i)) from base

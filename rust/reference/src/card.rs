@@ -44,9 +44,10 @@ impl Transaction {
         self.added < self.terms.messages()
     }
 
-    /// All its messages are added and lie in frames below this one (C18).
-    fn is_finished(&self, released: u64) -> bool {
-        self.added == self.terms.messages() && self.last_frame < released
+    /// All its messages are added, and the last of them lies in one of the frames that are
+    /// released now (C18).
+    fn finishes_by(&self, released: &Range<u64>) -> bool {
+        self.added == self.terms.messages() && released.contains(&self.last_frame)
     }
 }
 
@@ -237,21 +238,22 @@ impl Card {
         let covered: Vec<u64> = numbers.filter_map(|n| self.sealed_frame(n)).collect();
         self.acknowledged.extend(covered);
         self.acknowledged.retain(|f| *f < end && *f < marked);
+        let before = self.released;
         while self.acknowledged.remove(&self.released) {
             self.released += 1;
             self.sealed -= 1;
         }
-        self.finish();
+        self.finish(&(before..self.released));
         Ok(())
     }
 
-    /// Finds the finished ones among the opened, and passes those that no unfinished one
-    /// is below.
-    fn finish(&mut self) {
+    /// Finds those among the opened that these released frames finish, and passes those that
+    /// no unfinished one is below.
+    fn finish(&mut self, released: &Range<u64>) {
         let end = self.lowest + self.opened;
         let window = self.lowest..end.min(self.lowest + self.transaction_window());
         let finished: Vec<u64> = window
-            .filter(|t| self.transactions[&self.place(*t)].is_finished(self.released))
+            .filter(|t| self.transactions[&self.place(*t)].finishes_by(released))
             .collect();
         self.finished.extend(finished);
         self.finished.retain(|t| *t < end);

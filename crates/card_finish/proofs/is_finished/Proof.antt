@@ -9,7 +9,7 @@ use Rattle.card_finish.proofs.is_finished.Statement.{statement}
 use Rattle.card_finish.proofs.is_finished.Tie as tie
 use Rattle.card_finish.proofs.is_finished.Reads as reads
 use Rattle.card_finish.proofs.is_finished.Lts as lts
-use Rattle.card_finish.proofs.is_delivered.Reads as is-delivered-reads
+use Rattle.card_finish.proofs.is_all_released.Reads as is-all-released-reads
 use Rattle.card_words.proofs.sending_at.Reads as sending-at-reads
 use Rattle.bitmap.proofs.word32.is_marked.Reads as is-marked-reads
 use Rattle.seq.proofs.TransNo.advance.Reads as advance-reads
@@ -30,8 +30,8 @@ advance-requires c κs = search needs
 sending-at-requires : tie.Need-sending-at-requires
 sending-at-requires c κs = search needs
 
-is-delivered-requires : tie.Need-is-delivered-requires
-is-delivered-requires c κs = search needs
+is-all-released-requires : tie.Need-is-all-released-requires
+is-all-released-requires c κs = search needs
 
 returns-2 : tie.Need-returns-2
 unfolding finishedNow
@@ -41,7 +41,7 @@ returns-2 c =
     let a = o .before .before .before .args in
     let m : o .before .is-marked .result ≡ mark (a .finished) (a .i) = o .before .is-marked .ensures in
     rw (← m, o .if1 .left)
-    (c .is-delivered .ensures
+    (c .is-all-released .ensures
     ∙ rw (e .sending-at .ensures, e .before .advance .ensures, entry-is _ (a .lowest .0) (a .i)))
 
 pub is-finished-spec : {M : Type 1} → statement M
@@ -52,5 +52,5 @@ is-finished-spec =
     returns
     advance-requires
     sending-at-requires
-    is-delivered-requires
+    is-all-released-requires
     returns-2)

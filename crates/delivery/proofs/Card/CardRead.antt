@@ -19,8 +19,8 @@ use Rattle.card.specs.declared.SendWindow.{SendWindow}
 use Rattle.card.specs.Window.{acknowledging, releasing}
 use Rattle.card.proofs.Window.{base-after, marks-after, next-after}
 use Rattle.card.specs.declared.Sending.{Sending}
-use Rattle.card.specs.Sendings.{sendingAt, delivered, finishing, passing}
-use Rattle.card.proofs.Finishing.{not-delivered, delivered-is, lowest-after, finished-after}
+use Rattle.card.specs.Sendings.{sendingAt, allReleased, finishing, passing}
+use Rattle.card.proofs.Finishing.{not-all-released, all-released-is, lowest-after, finished-after}
 use Rattle.card.specs.declared.Card.{Card}
 use Rattle.card.specs.Card.{acknowledged}
 use Rattle.card.proofs.Slots.{Built, built-same}
@@ -194,10 +194,11 @@ module _ (c : Card) (slots : List ℕ) (b : Book) (r : CardFor c slots b) (s : S
     t = r .termsAre k least isOpen
 
     -- a message of it is missing
-    not-yet : inAll b k < needed (transactionAt b k .count) → delivered terms (window .base .0) (window .next .0)
+    not-yet : inAll b k < needed (transactionAt b k .count) → allReleased terms (c .window .base .0) (window .base .0)
         ≡ finished b′ k
     not-yet h =
-        not-delivered terms (window .base .0) (window .next .0) (omega (arith, t .addedIs, ap needed (t .countIs)))
+        not-all-released terms (c .window .base .0) (window .base .0)
+        (omega (arith, t .addedIs, ap needed (t .countIs)))
         ∙ sym (finished-is k ∙ lt-leb (needed (transactionAt b k .count)) (inFirst b k (releasedCount b′)) (omega (
           arith,
           count-prefix k (b .frames) (releasedCount b′),
@@ -231,19 +232,18 @@ module _ (c : Card) (slots : List ℕ) (b : Book) (r : CardFor c slots b) (s : S
               ∙ sym (finished-is k ∙ lt-leb (needed (transactionAt b k .count)) (inFirst b k (releasedCount b′))
               (omega (arith, f .notBefore (releasedCount b′) (omega arith))))
 
-      all-added : delivered terms (window .base .0) (window .next .0) ≡ finished b′ k
+      all-added : allReleased terms (c .window .base .0) (window .base .0) ≡ finished b′ k
       all-added =
-          delivered-is terms (window .base .0) (window .next .0) (releasedCount b) (releasedCount b′) total (f .frame)
-          (t .addedIs ∙ all ∙ sym (ap needed (t .countIs))) (f .isNumber) base-is next-is unreleased
-          (f .atMost) released-more
-          released-top (s .framesFit)
+          all-released-is terms (c .window .base .0) (window .base .0) (releasedCount b) (releasedCount b′) (f .frame)
+          (t .addedIs ∙ all ∙ sym (ap needed (t .countIs))) (f .isNumber) (r .lowIs) base-is unreleased
+          (omega (arith, f .atMost, s .framesFit)) released-more (omega (arith, released-top, s .framesFit))
           ∙ by-frame
 
-    delivered-now : delivered terms (window .base .0) (window .next .0) ≡ finished b′ k
-    delivered-now = go (decLt (inAll b k) (needed (transactionAt b k .count)))
+    all-released-now : allReleased terms (c .window .base .0) (window .base .0) ≡ finished b′ k
+    all-released-now = go (decLt (inAll b k) (needed (transactionAt b k .count)))
       where
         go : Dec (inAll b k < needed (transactionAt b k .count))
-            → delivered terms (window .base .0) (window .next .0) ≡ finished b′ k
+            → allReleased terms (c .window .base .0) (window .base .0) ≡ finished b′ k
         go (yes h) = not-yet h
         go (no n) =
             let all : inAll b k ≡ needed (transactionAt b k .count) = omega (arith, s .atMost k isOpen) in
@@ -268,16 +268,16 @@ module _ (c : Card) (slots : List ℕ) (b : Book) (r : CardFor c slots b) (s : S
   low-after =
       rw low-is
       (lowest-after (c .sendings) (lowUnfinished b) (length (b .transactions)) (low-most c slots b r s) (s .transFit)
-      (r .transLowIs) (r .transNextIs) (window .base .0) (window .next .0) (finished b) (finished b′) (r .finishedAre)
-      finished-below finished-stays delivered-now unopened-now)
+      (r .transLowIs) (r .transNextIs) (c .window .base .0) (window .base .0) (finished b) (finished b′)
+      (r .finishedAre) finished-below finished-stays all-released-now unopened-now)
 
   marks-now : (i : ℕ) → mark (read-card .sendings .finished) i ≡ finished b′ (lowUnfinished b′ + i)
   unfolding acknowledged
   marks-now i =
       rw low-is
       (finished-after (c .sendings) (lowUnfinished b) (length (b .transactions)) (low-most c slots b r s) (s .transFit)
-      (r .transLowIs) (r .transNextIs) (window .base .0) (window .next .0) (finished b) (finished b′) (r .finishedAre)
-      finished-below finished-stays delivered-now unopened-now i)
+      (r .transLowIs) (r .transNextIs) (c .window .base .0) (window .base .0) (finished b) (finished b′)
+      (r .finishedAre) finished-below finished-stays all-released-now unopened-now i)
 
   low-more : lowUnfinished b ≤ lowUnfinished b′
   low-more =

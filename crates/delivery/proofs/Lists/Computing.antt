@@ -29,7 +29,7 @@ use Rattle.card.specs.Sendings.{
   opening,
   takes,
   adding,
-  delivered,
+  allReleased,
   finishedBy,
   passing,
   finishing,
@@ -128,7 +128,7 @@ unfolding distance advance latest mark withMark leading trailingOnes marksOf lit
     ackFrame roomFor firstMessage nextMessage agrees termsRefusal addressRefusal fills refusing closing holding
     verdictOf verdict after fresh openedOf effect takeIn takeAll settled runFrom afterFrame accepting byNumber receiveOf
     acknowledgementFrom emptyWindow held beforeHeld sealing acknowledgedBy releasing acknowledging noSendings
-    openingRefusal opening takes adding delivered finishedBy passing finishing freshCard fits cardRefusal openCard
+    openingRefusal opening takes adding allReleased finishedBy passing finishing freshCard fits cardRefusal openCard
     openTransaction addRefusal messageOf builtSlot builtSlots withMessage addMessage sealRefusal sealFrame acknowledged
     readAcks frameIn showRefusal showFrame chooseRefusal chooseNext byCard acksFor byHost step run initial messagesIn
     ofTransaction allMessagesIn complete finished unfinishedFrom unfinished perform dataWrites completionWrite writesOf
