@@ -11,7 +11,7 @@ ghost use Rattle.host_words.specs.Words.{pairOf};
 ghost use Rattle.logwhisker.specs.Face.{
   hostOpened,
   received,
-  acknowledged,
+  acknowledgement,
   hostStored,
   bufferFilled,
   hostRestored,
@@ -61,11 +61,11 @@ pub extern "C" fn lw_raw_host_acknowledge(
     frame: &mut [u8; 10],
 ) -> u32
     ensures { λ r. ⌜ r
-        ≡ dueNumber (acknowledged (now (words .entry))
+        ≡ dueNumber (acknowledgement (now (words .entry))
         (answerOf (getD (now (answer .entry)) 0 0) (getD (now (answer .entry)) 1 0) (getD (now (answer .entry)) 7 0))
         number) ⌝ }
     ensures { λ _. ⌜ now (frame .exit)
-        ≡ writtenWhereDue (acknowledged (now (words .entry))
+        ≡ writtenWhereDue (acknowledgement (now (words .entry))
         (answerOf (getD (now (answer .entry)) 0 0) (getD (now (answer .entry)) 1 0) (getD (now (answer .entry)) 7 0))
         number)
         (now (frame .entry)) ⌝ }

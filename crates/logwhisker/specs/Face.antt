@@ -22,8 +22,8 @@ hostOpened own peer = specifiedHost .hostOpening own peer
 abbrev pub received : List ℕ → List ℕ → List ℕ → Received
 received words frame memory = specifiedHost .receiving (pairOf words) frame memory
 
-abbrev pub acknowledged : List ℕ → Answer → ℕ → Acknowledgement
-acknowledged words answer number = specifiedHost .acknowledging (pairOf words) answer number
+abbrev pub acknowledgement : List ℕ → Answer → ℕ → Acknowledgement
+acknowledgement words answer number = specifiedHost .acknowledging (pairOf words) answer number
 
 -- Storing into a lent buffer, the buffer after it, and reading a text: the store that the theorem over restarts is
 -- about.

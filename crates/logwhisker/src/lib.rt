@@ -48,7 +48,7 @@ ghost use Rattle.card_choose.specs.Choices.{chosenPart};
 ghost use Rattle.logwhisker.specs.Face.{
   hostOpened,
   received,
-  acknowledged,
+  acknowledgement,
   hostStored,
   bufferFilled,
   hostRestored,
@@ -86,7 +86,7 @@ pub fn receive(words: &mut [u64; 67], frame: &[u8], memory: &mut [u8]) -> Answer
 
 // The acknowledgement that an answer calls for, from a host whose next message frame will have this number.
 pub fn acknowledge(words: &[u64; 67], answer: Answer, number: FrameNo) -> Acknowledgement
-    ensures { λ r. ⌜ r ≡ acknowledged (now (words .entry)) answer (number .0) ⌝ }
+    ensures { λ r. ⌜ r ≡ acknowledgement (now (words .entry)) answer (number .0) ⌝ }
 {
     host_answer::acknowledge_in_place(words, answer, number)
 }
@@ -99,7 +99,7 @@ pub fn acknowledge_words(
     run: u64,
     number: FrameNo,
 ) -> Acknowledgement
-    ensures { λ r. ⌜ r ≡ acknowledged (now (words .entry)) (answerOf kind answered run) (number .0) ⌝ }
+    ensures { λ r. ⌜ r ≡ acknowledgement (now (words .entry)) (answerOf kind answered run) (number .0) ⌝ }
 {
     host_answer::acknowledge_words(words, kind, answered, run, number)
 }
