@@ -4,8 +4,7 @@
 use logwhisker::FrameNo;
 ghost use mathlib.Core.Path.{_≡_};
 ghost use lib.ListN.{getD};
-ghost use Rattle.host.specs.Host.{answerWords, answerOf};
-ghost use Rattle.host_receive.specs.Receiving.{LeavesWords};
+ghost use Rattle.host.specs.Host.{LeavesWords, answerWords, answerOf};
 ghost use Rattle.host_describe.specs.Describing.{description as descriptionOf};
 ghost use Rattle.host_words.specs.Words.{pairOf};
 ghost use Rattle.logwhisker.specs.Face.{

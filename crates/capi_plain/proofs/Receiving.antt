@@ -10,6 +10,7 @@ use lib.Dec.{eqb}
 use lib.ListN.{getD}
 use Rattle.host.specs.declared.Answer.{Answer}
 use Rattle.host.specs.Host.{answerWords}
+use Rattle.host.proofs.Answers.{effect-told}
 use Rattle.host_plain.specs.declared.PlainPair.{PlainPair}
 use Rattle.host_plain.specs.declared.PlainStepped.{PlainStepped}
 use Rattle.host_plain.specs.Plain.{receiveOf, steppedOf}
@@ -33,7 +34,7 @@ pub received-in-words : (w f memory : List ℕ) (q : PlainPair) → q ≡ plainO
 received-in-words w f memory q q-is s s-is left left-is kind kind-is words words-is out out-is = (
   kind-is ∙ ap (λ (a : Answer). getD (answerWords a) 0 0) answer,
   (
-    words-is ∙ rw (kind-is, answer, pair),
+    words-is ∙ rw (kind-is, effect-told (s .answer), answer, pair),
     (left-is ∙ ap (λ (q : PlainPair). receiveOf q f memory .memory) q-is, out-is ∙ ap answerWords answer),
   ),
 )

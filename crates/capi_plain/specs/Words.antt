@@ -7,7 +7,7 @@ use mathlib.Core.List.{List}
 use lib.Dec.{eqb, ltb}
 use lib.ListN.{getD}
 use Rattle.host.specs.declared.Open.{Open}
-use Rattle.host.specs.Host.{answerWords}
+use Rattle.host.specs.Host.{tookEffect}
 use Rattle.host_plain.specs.declared.PlainPair.{PlainPair}
 use Rattle.host_plain.specs.Plain.{free, Received, receiveOf}
 use Rattle.host_equal.specs.Described.{listOf}
@@ -72,4 +72,4 @@ received w f memory = receiveOf (plainOf w) f memory
 
 -- The words after it: those of the state that an accepted frame leaves, and as they were for any other answer.
 abbrev pub leftWords : List ℕ → Received → List ℕ
-leftWords w r = cond (eqb (getD (answerWords (r .answer)) 0 0) 1) (wordsOf (r .pair)) w
+leftWords w r = cond (tookEffect (r .answer)) (wordsOf (r .pair)) w

@@ -1,6 +1,7 @@
 -- The charging host: opening a pair, receiving a frame, and the acknowledgement that an answer calls for.
 use Prim.Native.Nat.{ℕ, suc, _+_, _%_}
-use mathlib.Core.Bool.{Bool, cond, _||_, _&&_}
+use mathlib.Core.Path.{_≡_}
+use mathlib.Core.Bool.{Bool, true, false, cond, _||_, _&&_}
 use mathlib.Core.List.{List, [], _∷_}
 use lib.Dec.{eqb, leb, ltb}
 use lib.ListN.{length, replicate}
@@ -165,6 +166,17 @@ receiveOf p f memory = answered p f memory (readFrame (addressed (p .own) (p .pe
 
 abbrev pub steppedOf : Received → Stepped
 steppedOf r = record { pair = r .pair; answer = r .answer }
+
+-- Whether the frame that got this answer took effect. Any other answer leaves the words in which a pair is lent as they
+-- were, word for word.
+abbrev pub tookEffect : Answer → Bool
+tookEffect (Accepted n sums run) = true
+tookEffect (Again n run) = false
+tookEffect NoMessages = false
+tookEffect (Refused r) = false
+
+abbrev pub LeavesWords : Answer → List ℕ → List ℕ → Type 0
+LeavesWords a words left = tookEffect a ≡ false → left ≡ words
 
 -- ---- acknowledging
 

@@ -2,7 +2,7 @@
 use Prim.Native.Nat.{ℕ, _^_, _≤_, _<_}
 use mathlib.Core.Path.{_≡_}
 use mathlib.Core.Logic.{_≢_}
-use mathlib.Core.Bool.{Bool, true, false}
+use mathlib.Core.Bool.{true, false}
 use mathlib.Core.List.{List}
 use lib.ListN.{length}
 use Rattle.seq.specs.Ring.{distance, frameSpace}
@@ -10,20 +10,8 @@ use Rattle.bitmap.specs.Marks.{mark}
 use Rattle.wire.specs.Reading.{number, flags, addressed}
 use Rattle.host.specs.declared.Answer.{Answer}
 use Rattle.host.specs.declared.Pair.{Pair}
-use Rattle.host.specs.declared.Answer.the-variants.{Accepted, Again, NoMessages, Refused}
-use Rattle.host.specs.Host.{refused, receiveOf}
+use Rattle.host.specs.Host.{refused, receiveOf, LeavesWords}
 use Rattle.host_words.specs.Words.{wordCount, otherLength, pairOf}
-
--- Whether the frame that got this answer took effect.
-abbrev pub tookEffect : Answer → Bool
-tookEffect (Accepted n sums run) = true
-tookEffect (Again n run) = false
-tookEffect NoMessages = false
-tookEffect (Refused r) = false
-
--- Any other answer leaves the words as they were, word for word.
-abbrev pub LeavesWords : Answer → List ℕ → List ℕ → Type 0
-LeavesWords a w left = tookEffect a ≡ false → left ≡ w
 
 -- Receiving a frame in 67 words: the pair that they hold then, the memory and the answer are those of the pair that
 -- they held. Words of another number stay as they are, as does the memory, and the answer is no refusal of the rules.
