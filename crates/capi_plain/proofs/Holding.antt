@@ -34,7 +34,7 @@ pub record Fitting (q : PlainPair) : Type 0 where
   pub accepted-are : length (q .frames .accepted) ≡ 64
   pub lowest-fits : q .transactions .lowest .0 < 4294967296
   pub closed-are : length (q .transactions .closed) ≡ 32
-  pub places : length (q .transactions .table) ≡ 32
+  pub entries : length (q .transactions .table) ≡ 32
   pub address-fits : (k : ℕ) → getD (q .transactions .table) k free .address < 4294967296
   pub value-fits : (k : ℕ) → getD (q .transactions .table) k free .value < 4294967296
   pub count-fits : (k : ℕ) → getD (q .transactions .table) k free .count < 65536
@@ -124,7 +124,7 @@ module _ (q : PlainPair) (k : Fitting q) where
   unfolding tableOf
   table-back =
       ext-getD free (listOf 32 (entryAt (wordsOf q))) (q .transactions .table)
-      (length-listOf 32 (entryAt (wordsOf q)) ∙ sym (k .places))
+      (length-listOf 32 (entryAt (wordsOf q)) ∙ sym (k .entries))
       (λ i h.
       let near : i < 32 = omega (arith, h, length-listOf 32 (entryAt (wordsOf q))) in
       getD-listOf 32 (entryAt (wordsOf q)) free i near ∙ entry-back i near)

@@ -52,7 +52,7 @@ use Rattle.host_equal.specs.Described.{
 use Rattle.host_equal.specs.Sequences.{andBefore, after, afterFirst, afterPlain}
 use Rattle.host_equal.proofs.Windows.{bits, bits-clear, word-of-bits, bits-of-word, same-table}
 use Rattle.host_equal.proofs.Messages.{plainOf, plainTaken, take-same, take-fits}
-use Rattle.host_equal.proofs.Numbers.{framesOf, ahead-is, received-same, run-same, accepting-same}
+use Rattle.host_equal.proofs.Numbers.{framesOf, past-next-is, settled-same, run-same, accepting-same}
 
 -- ---- the plain pair that has the description of a pair
 
@@ -93,7 +93,7 @@ plain-is p q k l e = rw (same-own, same-peer, same-next, same-accepted, same-low
 
     tables : q .transactions .table ≡ p .table
     tables =
-        same-table (p .lowest .0) (q .transactions .table) (p .table) (l .places) (k .places)
+        same-table (p .lowest .0) (q .transactions .table) (p .table) (l .entries) (k .entries)
         (ap (λ (n : ℕ). fromLowest n (q .transactions .table)) (sym same-lowest)
         ∙ sym (ap (λ (d : Described). d .underway) e))
 
@@ -157,15 +157,15 @@ module _ (p : Pair) (k : Fits p) (memory : List ℕ) where
       Goal = (plain.byNumber (plainPair p) memory num ms ≡ plainReceived (byNumber p memory num ms))
           × Fits (byNumber p memory num ms .pair)
 
-      known : plain.isReceived (framesOf p) num ≡ settled p num
-      known = received-same p (k .marks-fit) num
+      known : plain.isSettled (framesOf p) num ≡ settled p num
+      known = settled-same p (k .marks-fit) num
 
       go : (a : Bool) → settled p num ≡ a → (b : Bool) → leb 64 (distance frameSpace (p .next .0) num) ≡ b → Goal
       go true x b y = (rw (known, x, run-same p (k .marks-fit) num), rw x k)
-      go false x true y = (rw (known, x, ahead-is p num, y), rw (x, y) k)
+      go false x true y = (rw (known, x, past-next-is p num, y), rw (x, y) k)
       go false x false y =
           let near = leb-false 64 (distance frameSpace (p .next .0) num) y in (
-            rw (known, x, ahead-is p num, y, take-same (tallyOf p memory) 0 ms (k .closed-fit) refl)
+            rw (known, x, past-next-is p num, y, take-same (tallyOf p memory) 0 ms (k .closed-fit) refl)
                 (concluded-same num near (takeAll (tallyOf p memory) 0 ms)),
             rw (x, y) (concluded-fits num near ms (takeAll (tallyOf p memory) 0 ms) refl),
           )
@@ -277,10 +277,10 @@ unfolding openedOf plain.openedOf fresh plain.fresh
 opened-typed own peer = go (eqb own 0 || eqb peer 0)
   where
     typed : (own peer : ℕ) → Typed (fresh own peer)
-    typed own peer = record { marks-fit = omega arith; closed-fit = omega arith; places = refl }
+    typed own peer = record { marks-fit = omega arith; closed-fit = omega arith; entries = refl }
 
     typed-plain : (own peer : ℕ) → TypedPlain (plain.fresh own peer)
-    typed-plain own peer = record { accepted-are = refl; closed-are = refl; places = refl }
+    typed-plain own peer = record { accepted-are = refl; closed-are = refl; entries = refl }
 
     go : (b : Bool)
         → Typed (cond b refusedOpening

@@ -102,7 +102,7 @@ module _ (t : Transactions) (fits : t .closed < 2 ^ 32) (h : MessageHeader) (len
     window : (d < 32) × (mark (t .closed) d ≡ false)
     window = in-window (t .lowest) (t .closed) o h len size ok
 
-    pub done-same : plain.completes (plain.placeOf (plainOf t) h) h ≡ v .done
+    pub done-same : plain.completes (plain.entryOf (plainOf t) h) h ≡ v .done
     unfolding plainOf closing holding
     done-same = completes-is o h ∙ go (fills o h) refl
       where

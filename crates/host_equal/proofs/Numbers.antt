@@ -21,14 +21,14 @@ use Rattle.host_equal.proofs.Windows.{bits, bit-at, run-set, moved-set}
 unfoldable pub framesOf : Pair → PlainFrames
 framesOf p = record { next = p .next; accepted = bits 64 (p .marks) }
 
-pub ahead-is : (p : Pair) (num : ℕ) → plain.ahead (framesOf p) num ≡ distance frameSpace (p .next .0) num
+pub past-next-is : (p : Pair) (num : ℕ) → plain.pastNext (framesOf p) num ≡ distance frameSpace (p .next .0) num
 unfolding framesOf
-ahead-is p num = refl
+past-next-is p num = refl
 
 module _ (p : Pair) (fits : p .marks < 2 ^ 64) where
-  pub received-same : (num : ℕ) → plain.isReceived (framesOf p) num ≡ settled p num
-  unfolding plain.isReceived settled framesOf
-  received-same num = rw (bit-at 64 (p .marks) fits d) (go (ltb d 64) refl)
+  pub settled-same : (num : ℕ) → plain.isSettled (framesOf p) num ≡ settled p num
+  unfolding plain.isSettled settled framesOf
+  settled-same num = rw (bit-at 64 (p .marks) fits d) (go (ltb d 64) refl)
     where
       d : ℕ
       d = distance frameSpace (p .next .0) num
@@ -61,7 +61,7 @@ module _ (p : Pair) (fits : p .marks < 2 ^ 64) where
   unfolding plain.runFrom leading
   runs-same zero num = refl
   runs-same (suc most) num =
-      rw (received-same num, settled-at num, runs-same most (advance frameSpace num 1))
+      rw (settled-same num, settled-at num, runs-same most (advance frameSpace num 1))
       (ap (λ (n : ℕ). cond (settled p num) (suc n) 0)
       (leading-same (λ i. settled p (advance frameSpace (advance frameSpace num 1) i))
       (λ i. settled p (advance frameSpace num (suc i))) most

@@ -23,13 +23,13 @@ pub record Described : Type 0 where
   -- the next frame, and for each of the 64 frames from it on whether it was accepted
   pub next : ℕ
   pub accepted : List Bool
-  -- the lowest transaction that is not complete, and for each of the 32 from it on whether it is closed and what is
-  -- known of it while it is open, all zeros where it is not
+  -- the lowest transaction that is not complete, and for each of the 32 from it on whether it is closed, and its entry
+  -- in the table, which in a pair that a run reaches is all zeros where it is not open
   pub lowest : ℕ
   pub closed : List Bool
   pub underway : List Open
 
--- The transactions from `lowest` on, each from the place that its number modulo 32 gives.
+-- The transactions from `lowest` on, each from the entry that its number modulo 32 gives.
 unfoldable pub fromLowest : ℕ → List Open → List Open
 fromLowest lowest table = listOf 32 (λ i. getD table ((lowest + i) % 32) free)
 
@@ -58,16 +58,16 @@ describePlain q = record {
 }
 
 -- What the fields' types say of any pair, reached by a run or not: words of 64 and 32 bits, arrays of 64 and 32 marks,
--- and a table of 32 places.
+-- and a table of 32 entries.
 pub record Typed (p : Pair) : Type 0 where
   pub marks-fit : p .marks < 2 ^ 64
   pub closed-fit : p .closed < 2 ^ 32
-  pub places : length (p .table) ≡ 32
+  pub entries : length (p .table) ≡ 32
 
 pub record TypedPlain (q : PlainPair) : Type 0 where
   pub accepted-are : length (q .frames .accepted) ≡ 64
   pub closed-are : length (q .transactions .closed) ≡ 32
-  pub places : length (q .transactions .table) ≡ 32
+  pub entries : length (q .transactions .table) ≡ 32
 
 -- ---- the pair of the first host that a plain one stands for
 

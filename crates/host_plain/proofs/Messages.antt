@@ -20,7 +20,7 @@ use Rattle.host_plain.specs.Plain.{
   movedBy,
   isSet,
   away,
-  placeOf,
+  entryOf,
   differs,
   messageRefusal,
   completes,
@@ -42,7 +42,7 @@ module _ (t : PlainTransactions) (h : MessageHeader) (len size d : ℕ) (d-is : 
 
   -- in the window and not closed
   module _ (near : d < 32) (clear : isSet (t .closed) d ≡ false) (other : Bool)
-      (other-is : other ≡ differs (placeOf t h) h) where
+      (other-is : other ≡ differs (entryOf t h) h) where
     pub refuse-9 : other ≡ true → 9 ≡ messageRefusal t h len size
     unfolding messageRefusal
     refuse-9 e = rw (← d-is, lt-leb 32 d near, clear, ← other-is, e)
@@ -121,12 +121,12 @@ pub closing-is : (t : PlainTransactions) (h : MessageHeader) (d places : ℕ) (l
 unfolding closing
 closing-is t h d places lowest closed d-is p-is c-is l-is = rw (← d-is, c-is, ← p-is, ← l-is)
 
-pub after-closing : (t : PlainTransactions) (h : MessageHeader) → completes (placeOf t h) h ≡ true
+pub after-closing : (t : PlainTransactions) (h : MessageHeader) → completes (entryOf t h) h ≡ true
     → closing t h ≡ after t h
 unfolding after
 after-closing t h e = rw e
 
-pub after-keeping : (t : PlainTransactions) (h : MessageHeader) → completes (placeOf t h) h ≡ false
+pub after-keeping : (t : PlainTransactions) (h : MessageHeader) → completes (entryOf t h) h ≡ false
     → keeping t h ≡ after t h
 unfolding after
 after-keeping t h e = rw e

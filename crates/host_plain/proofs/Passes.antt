@@ -22,7 +22,7 @@ use Rattle.host.specs.declared.Sums.{Sums}
 use Rattle.host_plain.specs.declared.PlainTransactions.{PlainTransactions}
 use Rattle.host_plain.specs.declared.Outcome.{Outcome}
 use Rattle.host_plain.specs.Plain.{
-  placeOf,
+  entryOf,
   messageRefusal,
   completes,
   after,
@@ -187,7 +187,7 @@ module _ {f m₀ : List ℕ} {writing : Bool} {t₀ : PlainTransactions} {memory
             ∙ sym (rw (ne-eqb r 0 ne))
 
     -- it is not refused: what is written, and the state after it
-    module _ (ok : r ≡ 0) (done : Bool) (done-is : done ≡ completes (placeOf t h) h) {memory′ : List ℕ}
+    module _ (ok : r ≡ 0) (done : Bool) (done-is : done ≡ completes (entryOf t h) h) {memory′ : List ℕ}
         (memory′-is : memory′ ≡ cond writing (effect memory (carrying h (dataAt f at)) done) memory) where
       carried : carrying h (dataAt f at) ≡ m
       unfolding carrying headAt headOf dataAt

@@ -24,8 +24,8 @@ use Rattle.host_plain.specs.declared.PlainStepped.{PlainStepped}
 use Rattle.host_plain.specs.declared.Outcome.{Outcome}
 use Rattle.host_plain.specs.Plain.{
   isSet,
-  ahead,
-  isReceived,
+  pastNext,
+  isSettled,
   runFrom,
   accepting,
   allTaken,
@@ -46,13 +46,13 @@ use Rattle.host_plain.proofs.Passes.{tally}
 
 -- ---- frame numbers
 
-module _ (s : PlainFrames) (num d : ℕ) (d-is : d ≡ ahead s num) where
-  pub received-near : d < 64 → isSet (s .accepted) d ≡ isReceived s num
-  unfolding isReceived
+module _ (s : PlainFrames) (num d : ℕ) (d-is : d ≡ pastNext s num) where
+  pub received-near : d < 64 → isSet (s .accepted) d ≡ isSettled s num
+  unfolding isSettled
   received-near h = rw (← d-is, lt-ltb d 64 h)
 
-  pub received-far : 64 ≤ d → leb 32768 d ≡ isReceived s num
-  unfolding isReceived
+  pub received-far : 64 ≤ d → leb 32768 d ≡ isSettled s num
+  unfolding isSettled
   received-far h = rw (← d-is, le-ltb d 64 h)
 
 -- the loop that counts a run: what is left of it starts at the number reached
@@ -64,7 +64,7 @@ pub counting-start : (s : PlainFrames) (first : ℕ) → Counting s first first 
 counting-start s first = record { within = omega arith; whole = omega arith }
 
 module _ {s : PlainFrames} {first num run : ℕ} (k : Counting s first num run) where
-  pub counting-stops : isReceived s num ≡ false → run ≡ runFrom 255 s first
+  pub counting-stops : isSettled s num ≡ false → run ≡ runFrom 255 s first
   unfolding runFrom
   counting-stops e = go (255 - run) (k .whole)
     where
@@ -80,7 +80,7 @@ module _ {s : PlainFrames} {first num run : ℕ} (k : Counting s first num run) 
       go zero z w = omega (arith, w)
       go (suc n) z w = absurd (omega (arith, z))
 
-  pub counting-on : run < 255 → isReceived s num ≡ true → (next : FrameNo) → next .0 ≡ advance frameSpace num 1
+  pub counting-on : run < 255 → isSettled s num ≡ true → (next : FrameNo) → next .0 ≡ advance frameSpace num 1
       → Counting s first (next .0) (run + 1)
   unfolding runFrom
   counting-on h e next n-is =
@@ -143,7 +143,7 @@ module _ (p : PlainPair) (f memory : List ℕ) where
                 (ap (λ (n : FrameNo). byNumber p memory (n .0) (s .0)) (sym number-is)),
           )
 
-      module _ (known : Bool) (known-is : known ≡ isReceived (p .frames) (head .number .0)) where
+      module _ (known : Bool) (known-is : known ≡ isSettled (p .frames) (head .number .0)) where
         pub received-again : known ≡ true
             → receiveOf p f memory
             ≡ unchanged p memory (Again (head .number) (runFrom 255 (p .frames) (head .number .0)))
@@ -151,7 +151,7 @@ module _ (p : PlainPair) (f memory : List ℕ) where
         received-again e = received-some .2 ∙ rw (← known-is, e)
 
         -- not received yet, d past next
-        module _ (new : known ≡ false) (d : ℕ) (d-is : d ≡ ahead (p .frames) (head .number .0)) where
+        module _ (new : known ≡ false) (d : ℕ) (d-is : d ≡ pastNext (p .frames) (head .number .0)) where
           pub received-ahead : 64 ≤ d → receiveOf p f memory ≡ unchanged p memory (refusing 6 0)
           unfolding byNumber
           received-ahead h = received-some .2 ∙ rw (← known-is, new, ← d-is, le-leb 64 d h)

@@ -1,6 +1,6 @@
 -- The plain host: opening a pair, and receiving a frame. Marks are lists of yes and no; the first stands for the lowest
 -- number of a window, and each further one for the next number. Nothing here is the first host's: only the format of
--- frames, bytes in memory, distances and the types of answers are shared with it.
+-- frames, bytes in memory, distances and the types of answers and of open transactions are shared with it.
 use Prim.Native.Nat.{ℕ, zero, suc, _+_, _%_}
 use mathlib.Core.Bool.{Bool, true, false, cond, not, _&&_, _||_}
 use mathlib.Core.List.{List, [], _∷_, _++_}
@@ -23,7 +23,7 @@ use Rattle.host_plain.specs.declared.PlainStepped.{PlainStepped}
 
 -- ---- opening
 
--- A place with no open transaction.
+-- An entry of the table with no open transaction.
 abbrev pub free : Open
 free = record { address = 0; value = 0; count = 0; received = 0 }
 
@@ -62,22 +62,22 @@ isSet marks i = getD marks i false
 -- ---- frame numbers
 
 -- How far a number lies past the next one: up to 63 it is in the window, from 32,768 on behind, and ahead between.
-abbrev pub ahead : PlainFrames → ℕ → ℕ
-ahead s num = distance frameSpace (s .next .0) num
+abbrev pub pastNext : PlainFrames → ℕ → ℕ
+pastNext s num = distance frameSpace (s .next .0) num
 
--- Whether a number is in the window and accepted, or behind.
-unfoldable pub isReceived : PlainFrames → ℕ → Bool
-isReceived s num = cond (ltb (ahead s num) 64) (isSet (s .accepted) (ahead s num)) (leb 32768 (ahead s num))
+-- Settled: in the window and accepted, or behind.
+unfoldable pub isSettled : PlainFrames → ℕ → Bool
+isSettled s num = cond (ltb (pastNext s num) 64) (isSet (s .accepted) (pastNext s num)) (leb 32768 (pastNext s num))
 
--- How many numbers from `num` on, one after another and at most `most`, are so before one that is not.
+-- How many numbers from `num` on, one after another and at most `most`, are settled before one that is not.
 unfoldable pub runFrom : ℕ → PlainFrames → ℕ → ℕ
 runFrom zero s num = 0
-runFrom (suc most) s num = cond (isReceived s num) (suc (runFrom most s (advance frameSpace num 1))) 0
+runFrom (suc most) s num = cond (isSettled s num) (suc (runFrom most s (advance frameSpace num 1))) 0
 
 -- A number in the window is marked, and the window begins at the first number that is not accepted.
 unfoldable pub accepting : PlainFrames → ℕ → PlainFrames
 accepting s num =
-    let marks = set (s .accepted) (ahead s num) true in
+    let marks = set (s .accepted) (pastNext s num) true in
     record {
       next = record { 0 = advance frameSpace (s .next .0) (firstSet marks) };
       accepted = movedBy (firstSet marks) marks;
@@ -85,12 +85,12 @@ accepting s num =
 
 -- ---- one message
 
--- How far its transaction lies past the lowest one that is not complete, and its place in the table.
+-- How far its transaction lies past the lowest one that is not complete, and its entry in the table.
 abbrev pub away : PlainTransactions → MessageHeader → ℕ
 away t h = distance transSpace (t .lowest .0) (h .trans .0)
 
-abbrev pub placeOf : PlainTransactions → MessageHeader → Open
-placeOf t h = getD (t .table) (h .trans .0 % 32) free
+abbrev pub entryOf : PlainTransactions → MessageHeader → Open
+entryOf t h = getD (t .table) (h .trans .0 % 32) free
 
 -- Whether count, completion address or value differ from the open transaction's. Of an open one some message was
 -- received.
@@ -105,7 +105,7 @@ unfoldable pub messageRefusal : PlainTransactions → MessageHeader → ℕ → 
 messageRefusal t h len size =
     cond (leb 32 (away t h)) 7
     (cond (isSet (t .closed) (away t h)) 8
-    (cond (differs (placeOf t h) h) 9
+    (cond (differs (entryOf t h) h) 9
     (cond (eqb (h .count) 0 && ltb 0 len) 10
     (cond (ltb size (h .«data_address» + len)) 11
     (cond (ltb size (h .«completion_address» + 4)) 12 0)))))
@@ -136,12 +136,12 @@ keeping t h = record {
         address = h .«completion_address»;
         value = h .«completion_value»;
         count = h .count;
-        received = (placeOf t h .received + 1) % 65536;
+        received = (entryOf t h .received + 1) % 65536;
       });
 }
 
 unfoldable pub after : PlainTransactions → MessageHeader → PlainTransactions
-after t h = cond (completes (placeOf t h) h) (closing t h) (keeping t h)
+after t h = cond (completes (entryOf t h) h) (closing t h) (keeping t h)
 
 -- A message's data is written, and straight after it the completion where the message completes its transaction.
 unfoldable pub effect : List ℕ → Message → Bool → List ℕ
@@ -165,7 +165,7 @@ pub record Tally : Type 0 where
 
 unfoldable pub takeIn : Tally → Message → Tally
 takeIn t m =
-    let done = completes (placeOf (t .transactions) (headOf m)) (headOf m) in
+    let done = completes (entryOf (t .transactions) (headOf m)) (headOf m) in
     record {
       transactions = after (t .transactions) (headOf m);
       memory = effect (t .memory) m done;
@@ -213,12 +213,13 @@ concluded p memory num (allTaken t) =
     }
 concluded p memory num (refusedAt r place) = unchanged p memory (refusing r place)
 
--- A frame with messages. One that was received is answered "again", with the run from it on; one that is ahead gets 6.
+-- A frame with messages. One whose number is settled is answered "again", with the run from it on; one that is ahead
+-- gets 6.
 unfoldable pub byNumber : PlainPair → List ℕ → ℕ → List Message → Received
 byNumber p memory num ms =
-    cond (isReceived (p .frames) num)
+    cond (isSettled (p .frames) num)
     (unchanged p memory (Again (record { 0 = num }) (runFrom 255 (p .frames) num)))
-    (cond (leb 64 (ahead (p .frames) num)) (unchanged p memory (refusing 6 0))
+    (cond (leb 64 (pastNext (p .frames) num)) (unchanged p memory (refusing 6 0))
     (concluded p memory num
     (takeAll (record { transactions = p .transactions; memory = memory; sums = noSums }) ms)))
 

@@ -116,8 +116,8 @@ fn move_past_set(marks: &mut [bool]) -> u16
 // ---- frame numbers
 
 // Whether a frame is in the window and accepted, or behind.
-fn is_received(frames: PlainFrames, number: FrameNo) -> bool
-    ensures { λ r. ⌜ r ≡ plain.isReceived frames (number .0) ⌝ }
+fn is_settled(frames: PlainFrames, number: FrameNo) -> bool
+    ensures { λ r. ⌜ r ≡ plain.isSettled frames (number .0) ⌝ }
 {
     let next = frames.next;
     let d = number.distance(next);
@@ -134,7 +134,7 @@ fn run_from(frames: PlainFrames, first: FrameNo) -> u8
     let mut number = first;
     let mut run: u8 = 0;
     while run < 255 {
-        if !is_received(frames, number) {
+        if !is_settled(frames, number) {
             return run;
         }
         number = number.advance(1);
@@ -145,7 +145,7 @@ fn run_from(frames: PlainFrames, first: FrameNo) -> u8
 
 // A frame in the window is marked, and the window begins at the first number that is not accepted.
 fn accept(frames: PlainFrames, number: FrameNo) -> PlainFrames
-    requires { ⌜ plain.ahead frames (number .0) < 64 ⌝ }
+    requires { ⌜ plain.pastNext frames (number .0) < 64 ⌝ }
     ensures { λ r. ⌜ r ≡ plain.accepting frames (number .0) ⌝ }
 {
     let next = frames.next;
@@ -335,7 +335,7 @@ fn refuse(pair: PlainPair, number: u8, place: u32) -> PlainStepped
 
 // A frame in the window that was not accepted: all its messages take effect, or none does.
 fn take_frame(pair: PlainPair, f: &[u8], memory: &mut [u8], number: FrameNo) -> PlainStepped
-    requires { ⌜ (length (now f) ≤ 9000) × (plain.ahead (pair .frames) (number .0) < 64) ⌝ }
+    requires { ⌜ (length (now f) ≤ 9000) × (plain.pastNext (pair .frames) (number .0) < 64) ⌝ }
     ensures { λ r. ⌜ TakesFrame pair (now (f .entry)) (now (memory .entry)) (number .0) r (now (memory .exit)) ⌝ }
 {
     let transactions = pair.transactions;
@@ -374,7 +374,7 @@ pub fn receive(pair: PlainPair, f: &[u8], memory: &mut [u8]) -> PlainStepped
     }
     let number = head.number;
     let frames = pair.frames;
-    if is_received(frames, number) {
+    if is_settled(frames, number) {
         let answer = Answer::Again(number, run_from(frames, number));
         return PlainStepped { pair, answer };
     }

@@ -15,7 +15,7 @@ use Rattle.host_plain.proofs.receive.Statement.{statement}
 use Rattle.host_plain.proofs.receive.Tie as tie
 use Rattle.host_plain.proofs.receive.Reads as reads
 use Rattle.host_plain.proofs.receive.Lts as lts
-use Rattle.host_plain.proofs.is_received.Reads as is-received-reads
+use Rattle.host_plain.proofs.is_settled.Reads as is-settled-reads
 use Rattle.host_plain.proofs.refuse.Reads as refuse-reads
 use Rattle.host_plain.proofs.run_from.Reads as run-from-reads
 use Rattle.host_plain.proofs.take_frame.Reads as take-frame-reads
@@ -48,8 +48,8 @@ returns-2 c =
     (c .if2 .taken) in
     (sym (ap steppedOf e), sym (ap (λ (r : Received). r .memory) e))
 
-is-received-requires : tie.Need-is-received-requires
-is-received-requires c κs = search needs
+is-settled-requires : tie.Need-is-settled-requires
+is-settled-requires c κs = search needs
 
 run-from-requires : tie.Need-run-from-requires
 run-from-requires c κs = search needs
@@ -62,7 +62,7 @@ returns-3 c =
     let can = readable _ (a .f .now) (sym (c8 .before .refusal-of .ensures) ∙ c8 .if1 .left) in
     let e =
     received-again (a .pair) (a .f .now) (a .memory .now) can _ (c4 .before .before .before .frame-header .ensures)
-    (c4 .before .if2 .left) _ (c .before .before .is-received .ensures) (c .before .if3 .taken) in
+    (c4 .before .if2 .left) _ (c .before .before .is-settled .ensures) (c .before .if3 .taken) in
     (rw (c .run-from .ensures) (sym (ap steppedOf e)), sym (ap (λ (r : Received). r .memory) e))
 
 distance-requires : tie.Need-distance-requires
@@ -80,7 +80,7 @@ returns-4 c =
     (sym (c8 .before .before .before .before .refusal-of .ensures) ∙ c8 .before .before .before .if1 .left) in
     let e =
     received-ahead (a .pair) (a .f .now) (a .memory .now) can _ (c8 .before .before .frame-header .ensures)
-    (c8 .if2 .left) _ (c4 .before .is-received .ensures) (c4 .if3 .left) _ (c .before .before .distance .ensures)
+    (c8 .if2 .left) _ (c4 .before .is-settled .ensures) (c4 .if3 .left) _ (c .before .before .distance .ensures)
     (c .before .if4 .taken) in
     (c .refuse2 .ensures ∙ sym (ap steppedOf e), sym (ap (λ (r : Received). r .memory) e))
 
@@ -105,7 +105,7 @@ returns-5 c =
     let can = readable _ (a .f .now)
     (sym (c11 .before .before .before .before .refusal-of .ensures) ∙ c11 .before .before .before .if1 .left) in
     received-taken (a .pair) (a .f .now) (a .memory .now) can _ (c11 .before .before .frame-header .ensures)
-    (c11 .if2 .left) _ (c7 .before .is-received .ensures) (c7 .if3 .left) _ (c3 .before .before .distance .ensures)
+    (c11 .if2 .left) _ (c7 .before .is-settled .ensures) (c7 .if3 .left) _ (c3 .before .before .distance .ensures)
     (c3 .before .if4 .left) _ _ (c .before .before .take-frame .ensures)
 
 pub receive-spec : {M : Type 1} → statement M
@@ -117,7 +117,7 @@ receive-spec =
     returns
     frame-header-requires
     returns-2
-    is-received-requires
+    is-settled-requires
     run-from-requires
     returns-3
     distance-requires

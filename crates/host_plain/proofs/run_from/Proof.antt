@@ -10,7 +10,7 @@ use Rattle.host_plain.proofs.run_from.Statement.{statement}
 use Rattle.host_plain.proofs.run_from.Tie as tie
 use Rattle.host_plain.proofs.run_from.Reads as reads
 use Rattle.host_plain.proofs.run_from.Lts as lts
-use Rattle.host_plain.proofs.is_received.Reads as is-received-reads
+use Rattle.host_plain.proofs.is_settled.Reads as is-settled-reads
 use Rattle.seq.proofs.FrameNo.advance.Reads as advance-reads
 
 abbrev Inv-loop : tie.InvT-loop
@@ -22,13 +22,13 @@ abbrev μ-loop : tie.MeasureT-loop
 loop-holds : tie.Need-loop-holds Inv-loop μ-loop
 loop-holds c = counting-start _ _
 
-is-received-requires : tie.Need-is-received-requires Inv-loop μ-loop
-is-received-requires c κs = search needs
+is-settled-requires : tie.Need-is-settled-requires Inv-loop μ-loop
+is-settled-requires c κs = search needs
 
 returns : tie.Need-returns Inv-loop μ-loop
 returns c =
     counting-stops (c .before .before .before .loop .inv)
-    (sym (c .before .is-received .ensures) ∙ not-true _ (c .if1 .taken))
+    (sym (c .before .is-settled .ensures) ∙ not-true _ (c .if1 .taken))
 
 advance-requires : tie.Need-advance-requires Inv-loop μ-loop
 advance-requires c κs = search needs
@@ -43,7 +43,7 @@ loop-again : tie.Need-loop-again Inv-loop μ-loop
 loop-again c =
     let k = c .before .before .before .before in
     counting-on (k .loop .inv) (c .before .before .before .loop-test .taken)
-    (sym (c .before .before .is-received .ensures) ∙ not-false _ (c .before .if1 .left)) _ (c .advance .ensures)
+    (sym (c .before .before .is-settled .ensures) ∙ not-false _ (c .before .if1 .left)) _ (c .advance .ensures)
 
 returns-2 : tie.Need-returns-2 Inv-loop μ-loop
 returns-2 c = counting-full (c .before .loop .inv) (c .loop-test .left)
@@ -55,7 +55,7 @@ run-from-spec =
     Inv-loop
     μ-loop
     loop-holds
-    is-received-requires
+    is-settled-requires
     returns
     advance-requires
     add-run

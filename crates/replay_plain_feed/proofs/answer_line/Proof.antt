@@ -44,9 +44,9 @@ returns-2 c =
     let transactions = fields .1 .0 .1 .1 in
     let accepted : length (q .frames .accepted) ≡ 64 = simp length-map at (frames .1 .0 .1 .0 .1) in
     let closed : length (q .transactions .closed) ≡ 32 = simp length-map at (transactions .1 .0 .1 .0 .1) in
-    let places : length (q .transactions .table) ≡ 32 = simp length-map at (transactions .1 .1 .0 .1 .0 .1) in
+    let entries : length (q .transactions .table) ≡ 32 = simp length-map at (transactions .1 .1 .0 .1 .0 .1) in
     received-line q (a .line) (a .frame .now) (a .memory .now) _ (judged .line-refusal .ensures) (good .if1 .left)
-    (record { accepted-are = accepted; closed-are = closed; places = places }) _ (front .front .ensures) _
+    (record { accepted-are = accepted; closed-are = closed; entries = entries }) _ (front .front .ensures) _
     (received .receive .ensures .0) _ (received .receive .ensures .1)
 
 pub answer-line-spec : {M : Type 1} → statement M
