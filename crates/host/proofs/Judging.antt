@@ -2,7 +2,7 @@
 -- Assumes nothing.
 use mathlib.Core.Path.{_≡_, refl, sym, ap, _∙_}
 use mathlib.Core.Logic.{_≢_, _⊎_, inl, inr}
-use mathlib.Core.Bool.{Bool, true, false}
+use mathlib.Core.Bool.{Bool, true, false, cond}
 use Prim.Native.Nat.{ℕ, zero, suc, _<_}
 use native.Mathlib.Omega.{arith}
 use borrow.Author.Tests.{eq-eqb, ne-eqb, eqb-true, eqb-false}
@@ -15,13 +15,15 @@ use Rattle.wire.proofs.Format.{needed-count}
 use Rattle.host.specs.declared.Open.{Open}
 use Rattle.host.specs.Terms.{agrees, messageRefusal}
 use Rattle.host.proofs.Passing.{message-pass}
-use Rattle.host.specs.Transactions.{fills, refusing, closing, holding, decided, verdictOf}
+use Rattle.host.specs.Transactions.{fills, refusing, closing, holding, verdictOf}
 
 -- the three verdicts
 module _ (lowest closed : ℕ) (o : Open) (h : MessageHeader) (len size d r : ℕ)
     (d-is : d ≡ distance transSpace lowest (h .trans .0))
     (r-is : r ≡ messageRefusal d closed o h len size) where
-  opened : decided r d lowest closed o h ≡ verdictOf lowest closed o h len size
+  opened : cond (eqb r 0) (cond (fills o h) (closing lowest closed d) (holding lowest closed o h))
+      (refusing r lowest closed o)
+      ≡ verdictOf lowest closed o h len size
   unfolding verdictOf
   opened = rw (r-is, d-is)
 

@@ -64,14 +64,11 @@ holding lowest closed o h = record {
   entry = oneMore o h;
 }
 
-abbrev pub decided : ℕ → ℕ → ℕ → ℕ → Open → MessageHeader → Verdict
-decided r d lowest closed o h =
-    cond (eqb r 0) (cond (fills o h) (closing lowest closed d) (holding lowest closed o h)) (refusing r lowest closed o)
-
 unfoldable pub verdictOf : ℕ → ℕ → Open → MessageHeader → ℕ → ℕ → Verdict
 verdictOf lowest closed o h len size =
     let d = distance transSpace lowest (h .trans .0) in
-    decided (messageRefusal d closed o h len size) d lowest closed o h
+    let r = messageRefusal d closed o h len size in
+    cond (eqb r 0) (cond (fills o h) (closing lowest closed d) (holding lowest closed o h)) (refusing r lowest closed o)
 
 -- ---- the whole table
 
