@@ -200,7 +200,8 @@ readAcks c f =
 
 -- ---- showing and choosing: nothing changes, and a part of a lent buffer is handed out
 
--- The sealed frame of a number, without the rest of its slot. (A length that a slot can't have gives none of it.)
+-- The sealed frame of a number, without the rest of its slot. (Where it would pass the buffer's end, which no run
+-- reaches, none of it.)
 unfoldable pub frameIn : Card → List ℕ → ℕ → List ℕ
 frameIn c slots n =
     let size = sizeOf (c .window) n in

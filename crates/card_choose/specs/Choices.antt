@@ -1,5 +1,5 @@
 -- What is chosen for a card in lent words: what the definitions of card/specs/Card.antt say of the card that the words
--- hold, and an empty part for a buffer of another length.
+-- hold, and an empty part and refusal 255 where the words are not 85.
 use Prim.Native.Nat.{ℕ}
 use mathlib.Core.Bool.{true, false, cond}
 use mathlib.Core.List.{List, []}

@@ -1,5 +1,5 @@
 -- Parts of lent buffers as two numbers, and what is shown for a card in lent words: what the definitions of
--- card/specs/Card.antt say of the card that the words hold, and an empty part for a buffer of another length.
+-- card/specs/Card.antt say of the card that the words hold; where the words are not 85, an empty part and refusal 255.
 use Prim.Native.Nat.{ℕ, _+_}
 use mathlib.Core.Bool.{cond}
 use mathlib.Core.List.{List, []}
@@ -18,7 +18,7 @@ partOf p buffer = take (p .len) (drop (p .offset) buffer)
 abbrev pub noPart : Part
 noPart = record { offset = 0; len = 0 }
 
--- Where the sealed frame of a number lies. (A length that a slot can't have gives no part.)
+-- Where the sealed frame of a number lies. (No part where it would pass the buffer's end, which no run reaches.)
 unfoldable pub framePart : Card → List ℕ → ℕ → Part
 framePart c slots n =
     let size = sizeOf (c .window) n in

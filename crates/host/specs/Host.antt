@@ -134,7 +134,8 @@ accepting p num t =
           (record { messages = t .messages; bytes = t .bytes; completed = t .completed }) (runFrom next num);
     }
 
--- A frame that comes again changes nothing, and acknowledges the run from its number on.
+-- Again (a term of the rules): the answer to a number that is behind, or in the window and accepted, whether a frame
+-- with it ever came or not. Nothing changes, and the run from that number on is acknowledged.
 abbrev pub again : Pair → List ℕ → ℕ → Received
 again p memory num = unchanged p memory (Again (record { 0 = num }) (runFrom p num))
 

@@ -14,8 +14,8 @@ use Rattle.host.specs.declared.Open.{Open}
 use Rattle.host.specs.Terms.{free, messageRefusal}
 use Rattle.host.specs.declared.Verdict.{Verdict}
 
--- Whether the messages received equal the count, with this one. (Where more were received already, which no run
--- reaches, they never do.)
+-- Whether the messages received equal the count (one for count 0), with this one. (Where more were received already,
+-- which no run reaches, they never do.)
 unfoldable pub fills : Open → MessageHeader → Bool
 fills o h = eqb (needed (h .count)) (suc (o .received))
 

@@ -108,7 +108,8 @@ headFine p =
     && not (mark (p .closed) 0)))
 
 -- An open transaction's line: received is between 1 and count less 1; the number is inside the window, is not closed,
--- and is neither repeated nor out of order, that is, at least as far past the lowest one as the lines before it leave.
+-- and is neither repeated nor out of order: further past the lowest one than the line before it. `least` is one more
+-- than that line's distance, and 0 for the first line.
 unfoldable pub openFine : ℕ → ℕ → ℕ → ℕ → Open → Bool
 openFine lowest closed least number o =
     let d = distance transSpace lowest number in

@@ -19,7 +19,8 @@ use Rattle.replay_text.specs.Text.{linesMost, memoryAtStart, noTotals}
 -- ---- what is held of the line being read
 
 -- As long as 9,000 bytes are enough for it: its bytes, a digit without its partner, and whether some character was no
--- digit. Once it is longer, no bytes are kept, but still whether its digits are odd in number and all were digits.
+-- digit. Once it is longer, no bytes are kept, but still whether its digits are odd in number and whether some
+-- character was none. (Of a line; a card's frames are held in another sense.)
 pub data Held : Type 0 where
   within : List ℕ → Option ℕ → Bool → Held
   past : Bool → Bool → Held
