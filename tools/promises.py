@@ -20,7 +20,7 @@ MEANINGS = ("pairOf", "cardOf")
 # The same of several buffers that hold one state together: each is an argument.
 MEANINGS_TOGETHER = ("replayingOf",)
 
-HEAD = re.compile(r'\bpub\s+(?:extern\s+"C"\s+)?fn\s+(\w+)\s*(?:<[^>]*>)?\s*\(')
+HEAD = re.compile(r'(?:\b(pub)\s+)?(?:\bextern\s+"C"\s+)?\bfn\s+(\w+)\s*(?:<[^>]*>)?\s*\(')
 # What may be a public function, in whatever form.
 ANY_HEAD = re.compile(r"\bpub\b[^;{}()]*(?:\([^)]*\)[^;{}()]*)?\bfn\b")
 CLAUSE = re.compile(r"\s*(requires|ensures|decreases|measure)\b[^{]*\{")
@@ -30,11 +30,26 @@ OPENING, CLOSING = "({[", ")}]"
 
 
 class Function:
-    """A public function: where it stands, its name, parameters, result and clauses, each clause as (kind, text)."""
+    """A function: whether it is public, where it stands and ends, its name, parameters, result, clauses, each clause as
+    (kind, text), and body."""
 
-    def __init__(self, position, name, parameters, result, clauses):
-        self.position, self.name, self.result, self.clauses = position, name, result, clauses
-        self.parameters = [p.strip() for p in split_at(parameters, ",") if p.strip()]
+    def __init__(self, head, text):
+        self.public, self.name = head.group(1) is not None, head.group(2)
+        end = past(text, head.end() - 1)
+        self.parameters = [p.strip() for p in split_at(text[head.end() : end - 1], ",") if p.strip()]
+        result = re.match(r"\s*->\s*(.*?)\s*(?=\b(?:requires|ensures|decreases|measure)\b|\{)", text[end:], flags=re.S)
+        self.result, self.clauses = result.group(1) if result else "", []
+        at = end + (result.end() if result else 0)
+        while clause := CLAUSE.match(text, at):
+            at = past(text, clause.end() - 1)
+            self.clauses.append((clause.group(1), text[clause.end() : at - 1]))
+        body = text.index("{", at)
+        self.position, self.end = head.start(), past(text, body)
+        self.body = text[body : self.end]
+
+    def calls(self, name):
+        """Whether its body calls what has this name."""
+        return re.search(rf"\b{name}\s*\(", self.body) is not None
 
     def lent_for_writing(self):
         """The names of the parameters that it may write to."""
@@ -113,26 +128,21 @@ def conjuncts(text):
     return [text] if len(parts) == 1 else [c for part in parts for c in conjuncts(part)]
 
 
+def functions(text):
+    """The functions of a source."""
+    text = without_comments(text)
+    return [Function(head, text) for head in HEAD.finditer(text)]
+
+
 def public_functions(text):
     """The public functions of a source."""
-    text = without_comments(text)
-    for head in HEAD.finditer(text):
-        end = past(text, head.end() - 1)
-        parameters = text[head.end() : end - 1]
-        result = re.match(r"\s*->\s*(.*?)\s*(?=\b(?:requires|ensures|decreases|measure)\b|\{)", text[end:], flags=re.S)
-        at, clauses = end + (result.end() if result else 0), []
-        clause = CLAUSE.match(text, at)
-        while clause:
-            at = past(text, clause.end() - 1)
-            clauses.append((clause.group(1), text[clause.end() : at - 1]))
-            clause = CLAUSE.match(text, at)
-        yield Function(head.start(), head.group(1), parameters, result.group(1) if result else "", clauses)
+    return [function for function in functions(text) if function.public]
 
 
 def unread_heads(text):
     """Where a source has what may be a public function and is not read as one."""
     text = without_comments(text)
-    read = [head.start() for head in HEAD.finditer(text)]
+    read = [head.start() for head in HEAD.finditer(text) if head.group(1)]
     return [head.start() for head in ANY_HEAD.finditer(text) if head.start() not in read]
 
 
