@@ -4,7 +4,7 @@
 use crate::book::{Book, Expected};
 use crate::card::SLOTS;
 use crate::ends::{CardEnd, Ends, HostEnd, Start};
-use crate::host::Answer;
+use crate::host::{Answer, Host};
 use crate::list::{Call, Outcome};
 use crate::replay::Totals;
 use kept::KeptMemory;
@@ -116,6 +116,21 @@ impl<E: Ends> System<E> {
         if let Outcome::Answered(answer) = outcome {
             self.arrived(&expected, answer)?;
         }
+        self.check()?;
+        Ok(outcome)
+    }
+
+    /// The host goes on with another state and another memory, as after a restart. What the
+    /// demand claims of the list so far has to hold then as well.
+    pub fn restart(&mut self, host: Host, memory: &[u8]) -> Result<(), Breach> {
+        self.host.put(host);
+        self.memory = memory.to_vec();
+        self.calls += 1;
+        self.check()
+    }
+
+    /// All that is claimed between two calls.
+    fn check(&self) -> Result<(), Breach> {
         self.check_released()?;
         if self.kept.bytes() != self.memory {
             return Err(Breach::Memory);
@@ -123,7 +138,7 @@ impl<E: Ends> System<E> {
         if self.care == Care::EveryCall || self.calls.is_multiple_of(SELDOM) {
             self.finish()?;
         }
-        Ok(outcome)
+        Ok(())
     }
 
     /// The parts of the check that go through the whole book; due at the end of a list.
@@ -289,6 +304,16 @@ impl<E: Ends> System<E> {
     /// The book so far.
     pub fn book(&self) -> &Book {
         &self.book
+    }
+
+    /// The host's state.
+    pub fn host(&self) -> &Host {
+        self.host.host()
+    }
+
+    /// How often the host has accepted.
+    pub fn acceptances(&self) -> u32 {
+        self.times_accepted.iter().sum()
     }
 
     /// The host's memory.

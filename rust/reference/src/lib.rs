@@ -23,6 +23,7 @@ pub mod marks;
 pub mod premises;
 pub mod refusal;
 pub mod replay;
+pub mod restarts;
 pub mod rng;
 pub mod script;
 pub mod settings;
