@@ -893,6 +893,9 @@ static void make_wild(uint64_t *words, size_t count, uint64_t *seed)
         words[i] = next_random(seed) & mask;
 }
 
+/* The data that such a message has at most. */
+enum { WILD_DATA = 16 };
+
 /* A message near the window: of an open transaction, or of any in reach. */
 static struct message wild_message(const lw_description *host, uint64_t *seed)
 {
@@ -907,22 +910,27 @@ static struct message wild_message(const lw_description *host, uint64_t *seed)
         message.completion = (uint32_t)open->address;
         message.value = (uint32_t)open->value;
     }
+    if (message.count > 0)
+        message.length = (uint16_t)(next_random(seed) % (WILD_DATA + 1));
     return message;
 }
 
 /* Hosts of any words at all, with frames made for their IDs and near their windows. */
 static void check_wild_hosts(void)
 {
-    enum { MESSAGES = 3, LENGTH = LW_FRAME_HEADER + MESSAGES * LW_MESSAGE_HEADER, SIZE = 0x40000 };
+    enum { MESSAGES = 3, SIZE = 0x40000 };
+    enum { LONGEST = LW_FRAME_HEADER + MESSAGES * (LW_MESSAGE_HEADER + WILD_DATA) };
     uint8_t *const memory = with_closed_end(SIZE);
-    uint8_t *const frame = with_closed_end(LENGTH);
+    uint8_t *const closed_end = with_closed_end(LONGEST) + LONGEST;
     uint64_t seed = 1;
     unsigned long taken = 0;
     unsigned long longer = 0;
+    unsigned long bytes = 0;
 
     for (unsigned long i = 0; i < 30000; i++) {
         uint8_t acknowledgement[LW_ACKNOWLEDGEMENT];
         struct message messages[MESSAGES];
+        uint8_t laid[LONGEST];
         lw_description state;
         lw_answer answer;
         lw_host host;
@@ -931,10 +939,13 @@ static void check_wild_hosts(void)
         check("open ones", i, state.open <= LW_TRANSACTION_WINDOW, 1);
         for (size_t k = 0; k < MESSAGES; k++)
             messages[k] = wild_message(&state, &seed);
-        lay_out(frame, (uint32_t)(state.next + next_random(&seed) % 65), messages, MESSAGES);
+        const size_t length = lay_out(laid, (uint32_t)(state.next + next_random(&seed) % 65),
+                                      messages, MESSAGES);
+        uint8_t *const frame = closed_end - length;
+        memcpy(frame, laid, length);
         put16(frame, (uint32_t)state.own);
         put16(frame + 2, (uint32_t)state.peer);
-        const uint32_t kind = lw_host_receive(&host, frame, LENGTH, memory, SIZE, &answer);
+        const uint32_t kind = lw_host_receive(&host, frame, length, memory, SIZE, &answer);
         check("kind", i, kind == answer.kind && kind >= LW_ACCEPTED && kind <= LW_REFUSED, 1);
         const unsigned due = kind == LW_ACCEPTED || kind == LW_AGAIN;
         check("due", i, lw_host_acknowledge(&host, &answer, 0, acknowledgement), due);
@@ -943,7 +954,9 @@ static void check_wild_hosts(void)
             check("count", i, lw_ack_count(acknowledgement, sizeof acknowledgement), answer.run);
         taken += kind == LW_ACCEPTED;
         longer += answer.run > 1;
+        bytes += answer.bytes;
     }
+    check("data was written", bytes, bytes > 1000, 1);
     check("many had longer runs", longer, longer > 1000, 1);
     check("many were accepted", taken, taken > 1000, 1);
     end_group("hosts of any words");
