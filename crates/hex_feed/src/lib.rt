@@ -8,20 +8,16 @@ ghost use mathlib.Core.Path.{_≡_};
 ghost use lib.ListN.{drop};
 ghost use Rattle.hex_line.specs.Taking.{takenFrom, frameAfter};
 
-// Takes in the characters of piece from an index on, up to the end of the line, newline included, or of the piece. The
-// bytes that they spell go into frame. A frame holds as many of
-// them as it has room for, and those past it are counted all the same.
-pub fn take_in(line: Line, frame: &mut [u8], piece: &[u8], from: usize) -> Taken
+// Takes in characters one by one, up to the end of the line or of the piece.
+fn take_each(line: Line, frame: &mut [u8], piece: &[u8], from: usize) -> Taken
     ensures { λ r. ⌜ r ≡ takenFrom line (now (frame .entry)) from (drop from (now (piece .entry))) ⌝ }
     ensures { λ _. ⌜ now (frame .exit) ≡ frameAfter line (now (frame .entry)) (drop from (now (piece .entry))) ⌝ }
 {
-    let front = hex_pairs::take_pairs(line, frame, piece, from);
-    let begun = front.line;
-    let mut len = begun.len;
-    let mut half = begun.half;
-    let mut odd = begun.odd;
-    let mut bad = begun.bad;
-    let mut at = front.at;
+    let mut len = line.len;
+    let mut half = line.half;
+    let mut odd = line.odd;
+    let mut bad = line.bad;
+    let mut at = from;
     let values = hex_line::digit_values();
     while at < piece.len() {
         let c = piece[at];
@@ -47,4 +43,22 @@ pub fn take_in(line: Line, frame: &mut [u8], piece: &[u8], from: usize) -> Taken
         len += 1;
     }
     hex_line::taken_of(len, half, odd, bad, at, false)
+}
+
+// Takes in the characters of piece from an index on, up to the end of the line, newline included, or of the piece. The
+// bytes that they spell go into frame, as many as it has room for; those past it are counted all the same. Behind its
+// pairs of digits a line mostly ends, so that this is looked at before the table of digits is made once more.
+pub fn take_in(line: Line, frame: &mut [u8], piece: &[u8], from: usize) -> Taken
+    ensures { λ r. ⌜ r ≡ takenFrom line (now (frame .entry)) from (drop from (now (piece .entry))) ⌝ }
+    ensures { λ _. ⌜ now (frame .exit) ≡ frameAfter line (now (frame .entry)) (drop from (now (piece .entry))) ⌝ }
+{
+    let front = hex_pairs::take_pairs(line, frame, piece, from);
+    let begun = front.line;
+    let at = front.at;
+    if at < piece.len() {
+        if piece[at] == b'\n' {
+            return hex_line::taken_of(begun.len, begun.half, begun.odd, begun.bad, at + 1, true);
+        }
+    }
+    take_each(begun, frame, piece, at)
 }

@@ -159,6 +159,13 @@ module _ {begun s : State} {piece : List ℕ} {from at : ℕ} (w : Walked begun 
       let whole : after begun (upToNewline (drop from piece)) ≡ s = w .is ∙ rw up in
       (rw (whole, w .ended-is, has, a), sym (ap (λ (x : State). x .frame) whole))
 
+  -- what is left of the walk, taken in by a call of its own
+  pub walked-rest :
+      (takenFrom (s .line) (s .frame) at (drop at piece) ≡ takenFrom (begun .line) (begun .frame) from (drop from piece))
+      × (frameAfter (s .line) (s .frame) (drop at piece) ≡ frameAfter (begun .line) (begun .frame) (drop from piece))
+  unfolding takenFrom frameAfter
+  walked-rest = (rw (w .is, w .ended-is, w .at-is), sym (ap (λ (x : State). x .frame) (w .is)))
+
 -- a digit that completes a byte, and a pair of digits
 module _ {begun : State} {piece : List ℕ} {from len half : ℕ} {odd bad : Bool} {frame : List ℕ} {at : ℕ}
     (w : Walked begun piece from (state len half odd bad frame) at) where

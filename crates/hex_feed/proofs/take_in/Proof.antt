@@ -1,186 +1,62 @@
--- `hex_feed::take_in`: what the pairs leave goes from character to character as the definition does.
+-- `hex_feed::take_in`: the pairs of digits first; then the line's end, or what is left from character to character.
 -- Assumes nothing.
-use mathlib.Core.Path.{refl, _∙_}
-use Prim.Native.Nat.{_-_}
-use native.Mathlib.Omega.{arith}
-use borrow.Author.Tests.{not-true, not-false}
+use mathlib.Core.Path.{_∙_}
 use borrow.Author.Needs.{needs}
-use lib.ListN.{length}
-use Rattle.hex_line.specs.Taking.{state}
-use Rattle.hex_line.specs.Walking.{Walked}
-use Rattle.hex_line.proofs.Digits.{looked-up, value-is, value-none}
-use Rattle.hex_line.proofs.Taking.{
-  walked-start,
-  walked-on,
-  walked-turn,
-  walked-kept,
-  walked-newline,
-  walked-end,
-  on-bad,
-  on-high,
-  on-full,
-}
+use Rattle.hex_line.proofs.Taking.{walked-newline, walked-rest}
 use Rattle.hex_pairs.proofs.Laws.{front-walked}
 use Rattle.hex_feed.proofs.take_in.Statement.{statement}
 use Rattle.hex_feed.proofs.take_in.Tie as tie
 use Rattle.hex_feed.proofs.take_in.Reads as reads
 use Rattle.hex_feed.proofs.take_in.Lts as lts
-use Rattle.hex_line.proofs.digit_value.Reads as digit-value-reads
-use Rattle.hex_line.proofs.digit_values.Reads as digit-values-reads
+use Rattle.hex_feed.proofs.take_each.Reads as take-each-reads
 use Rattle.hex_line.proofs.taken_of.Reads as taken-of-reads
 use Rattle.hex_pairs.proofs.take_pairs.Reads as take-pairs-reads
-use Rattle.octets.proofs.keep.Reads as keep-reads
 
-abbrev Inv-loop : tie.InvT-loop
-Inv-loop frame₀ piece from len₀ half₀ odd₀ bad₀ at₀ values frame len half odd bad at =
-    Walked (state len₀ half₀ odd₀ bad₀ frame₀) piece at₀ (state len half odd bad frame) at
-
-abbrev μ-loop : tie.MeasureT-loop
-μ-loop frame₀ piece from len₀ half₀ odd₀ bad₀ at₀ values frame len half odd bad at = length piece - at
-
-take-pairs-requires : tie.Need-take-pairs-requires Inv-loop μ-loop
+take-pairs-requires : tie.Need-take-pairs-requires
 take-pairs-requires c κs = search needs
 
-digit-values-requires : tie.Need-digit-values-requires Inv-loop μ-loop
-digit-values-requires c κs = search needs
+shared-slice-read-if2 : tie.Need-shared-slice-read-if2
+shared-slice-read-if2 c = search needs
 
-loop-holds : tie.Need-loop-holds Inv-loop μ-loop
-loop-holds c = walked-start _ _ _
+add-taken-of : tie.Need-add-taken-of
+add-taken-of c = search needs
 
-shared-slice-read-c : tie.Need-shared-slice-read-c Inv-loop μ-loop
-shared-slice-read-c c = search needs
-
-add-at : tie.Need-add-at Inv-loop μ-loop
-add-at c = search needs
-
-taken-of-requires : tie.Need-taken-of-requires Inv-loop μ-loop
+taken-of-requires : tie.Need-taken-of-requires
 taken-of-requires c κs = search needs
 
-same-length : tie.Need-same-length Inv-loop μ-loop
-same-length c =
-    let at-loop = c .before .before .before .before in
-    let front = front-walked _ _ _ _ _ _ (at-loop .before .before .before .before .before .take-pairs .ensures) in
-    at-loop .loop .inv .size ∙ front .size
+same-length : tie.Need-same-length
+same-length c = search needs
 
-returns : tie.Need-returns Inv-loop μ-loop
+returns : tie.Need-returns
 returns c =
     let s = c .before in
-    let at-loop = s .before .before .before in
-    let front = front-walked _ _ _ _ _ _ (at-loop .before .before .before .before .before .take-pairs .ensures) in
-    rw (c .taken-of .ensures)
-    (walked-newline (walked-on front (at-loop .loop .inv)) (s .before .before .loop-test .taken) (s .if1 .taken))
+    let t = s .before .before in
+    let front = front-walked _ _ _ _ _ _ (t .before .before .before .before .take-pairs .ensures) in
+    rw (c .taken-of .ensures) (walked-newline front (t .if1 .taken) (s .if2 .taken))
 
-digit-value-requires : tie.Need-digit-value-requires Inv-loop μ-loop
-digit-value-requires c κs = search needs
+take-each-requires : tie.Need-take-each-requires
+take-each-requires c κs = search needs
 
-loop-less : tie.Need-loop-less Inv-loop μ-loop
-loop-less c = omega arith
+same-length-2 : tie.Need-same-length-2
+same-length-2 c = search needs
 
-loop-again : tie.Need-loop-again Inv-loop μ-loop
-loop-again c =
-    let s = c .before .before .before in
-    let at-loop = s .before .before .before in
-    let d-is = looked-up _ _ _ (at-loop .before .digit-values .ensures) (c .before .digit-value .ensures) in
-    walked-turn (at-loop .loop .inv) _ (s .before .before .loop-test .taken) (s .if1 .left)
-    (on-bad _ _ _ _ _ _ (value-none _ _ d-is (c .if2 .taken)))
-    refl
-
-loop-less-2 : tie.Need-loop-less-2 Inv-loop μ-loop
-loop-less-2 c = omega arith
-
-loop-again-2 : tie.Need-loop-again-2 Inv-loop μ-loop
-loop-again-2 c =
-    let v = c .before .before in
-    let s = v .before .before in
-    let at-loop = s .before .before .before in
-    let d-is = looked-up _ _ _ (at-loop .before .digit-values .ensures) (v .digit-value .ensures) in
-    walked-turn (at-loop .loop .inv) _ (s .before .before .loop-test .taken) (s .if1 .left)
-    (on-high _ _ _ _ _ _ _ (value-is _ _ d-is (c .before .if2 .left)) (not-true _ (c .if3 .taken)))
-    refl
-
-loop-less-3 : tie.Need-loop-less-3 Inv-loop μ-loop
-loop-less-3 c = omega arith
-
-loop-again-3 : tie.Need-loop-again-3 Inv-loop μ-loop
-loop-again-3 c =
-    let v = c .before .before .before in
-    let s = v .before .before in
-    let at-loop = s .before .before .before in
-    let d-is = looked-up _ _ _ (at-loop .before .digit-values .ensures) (v .digit-value .ensures) in
-    walked-turn (at-loop .loop .inv) _ (s .before .before .loop-test .taken) (s .if1 .left)
-    (on-full _ _ _ _ _ _ _ (value-is _ _ d-is (c .before .before .if2 .left))
-    (not-false _ (c .before .if3 .left)) (c .if4 .taken))
-    refl
-
-mul-keep : tie.Need-mul-keep Inv-loop μ-loop
-mul-keep c = omega arith
-
-add-keep : tie.Need-add-keep Inv-loop μ-loop
-add-keep c = omega arith
-
-keep-requires : tie.Need-keep-requires Inv-loop μ-loop
-keep-requires c κs = search needs
-
-add-len : tie.Need-add-len Inv-loop μ-loop
-add-len c = omega arith
-
-loop-less-4 : tie.Need-loop-less-4 Inv-loop μ-loop
-loop-less-4 c = omega arith
-
-loop-again-4 : tie.Need-loop-again-4 Inv-loop μ-loop
-loop-again-4 c =
-    let f = c .before .before .before .before in
-    let v = f .before .before .before in
-    let s = v .before .before in
-    let at-loop = s .before .before .before in
-    let d-is = looked-up _ _ _ (at-loop .before .digit-values .ensures) (v .digit-value .ensures) in
-    walked-kept (at-loop .loop .inv) _ _ (c .before .before .keep .ensures)
-    (s .before .before .loop-test .taken) (s .if1 .left)
-    (value-is _ _ d-is (f .before .before .if2 .left)) (not-false _ (f .before .if3 .left))
-    (f .if4 .left)
-
-taken-of-requires-2 : tie.Need-taken-of-requires-2 Inv-loop μ-loop
-taken-of-requires-2 c κs = search needs
-
-same-length-2 : tie.Need-same-length-2 Inv-loop μ-loop
-same-length-2 c =
-    let at-loop = c .before .before in
-    let front = front-walked _ _ _ _ _ _ (at-loop .before .before .before .before .before .take-pairs .ensures) in
-    at-loop .loop .inv .size ∙ front .size
-
-returns-2 : tie.Need-returns-2 Inv-loop μ-loop
+returns-2 : tie.Need-returns-2
 returns-2 c =
-    let at-loop = c .before .before in
-    let front = front-walked _ _ _ _ _ _ (at-loop .before .before .before .before .before .take-pairs .ensures) in
-    rw (c .taken-of2 .ensures) (walked-end (walked-on front (at-loop .loop .inv)) (c .before .loop-test .left))
+    let e = c .before .before in
+    let front = front-walked _ _ _ _ _ _ (e .before .before .before .before .before .before .take-pairs .ensures) in
+    let rest = walked-rest front in
+    (e .take-each .ensures .0 ∙ rest .0, e .take-each .ensures .1 ∙ rest .1)
 
 pub take-in-spec : {M : Type 1} → statement M
 take-in-spec =
     tie.close
     (tie.spec
-    Inv-loop
-    μ-loop
     take-pairs-requires
-    digit-values-requires
-    loop-holds
-    shared-slice-read-c
-    add-at
+    shared-slice-read-if2
+    add-taken-of
     taken-of-requires
     same-length
     returns
-    digit-value-requires
-    loop-less
-    loop-again
-    loop-less-2
-    loop-again-2
-    loop-less-3
-    loop-again-3
-    mul-keep
-    add-keep
-    keep-requires
-    add-len
-    loop-less-4
-    loop-again-4
-    taken-of-requires-2
+    take-each-requires
     same-length-2
     returns-2)
