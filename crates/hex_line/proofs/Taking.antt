@@ -161,7 +161,8 @@ module _ {begun s : State} {piece : List ℕ} {from at : ℕ} (w : Walked begun 
 
   -- what is left of the walk, taken in by a call of its own
   pub walked-rest :
-      (takenFrom (s .line) (s .frame) at (drop at piece) ≡ takenFrom (begun .line) (begun .frame) from (drop from piece))
+      (takenFrom (s .line) (s .frame) at (drop at piece)
+      ≡ takenFrom (begun .line) (begun .frame) from (drop from piece))
       × (frameAfter (s .line) (s .frame) (drop at piece) ≡ frameAfter (begun .line) (begun .frame) (drop from piece))
   unfolding takenFrom frameAfter
   walked-rest = (rw (w .is, w .ended-is, w .at-is), sym (ap (λ (x : State). x .frame) (w .is)))
