@@ -7,9 +7,9 @@ SEED ?= 2
 VERSION := $(shell sed -n 's/^.define LW_VERSION "\(.*\)"/\1/p' include/logwhisker.h)
 
 # What the library for C is made from: the crates of exported functions, and all that crates.txt lists behind them.
-EXPORTS := capi_frame capi_host capi_card capi_replay capi_plain
+EXPORTS := $(shell sed -n 's/^\(capi[a-z_]*\):.*/\1/p' crates.txt)
 LIBRARY := target/staticlib/liblogwhisker.a
-LIBRARY_CRATES := $(sort $(EXPORTS) $(shell sed -n 's/^capi_[a-z]*://p' crates.txt))
+LIBRARY_CRATES := $(sort $(EXPORTS) $(shell sed -n 's/^capi[a-z_]*://p' crates.txt))
 LIBRARY_SOURCES := $(wildcard $(foreach crate,$(LIBRARY_CRATES),crates/$(crate)/src/*.rt crates/$(crate)/specs/*.antt))
 
 .PHONY: test check library replay calls demo bench soak install pictures clean

@@ -1,6 +1,6 @@
 """Holds what C and Rust declare of the exported functions to the functions themselves, for tools/check-claims.
 
-A function of crates/capi_*/src takes numbers, slices and references; C and Rust call it by declarations of their own,
+A function of crates/capi*/src takes numbers, slices and references; C and Rust call it by declarations of their own,
 which no compiler compares with it. A slice crosses as a pointer and then a length, a reference as a pointer; what a
 pointer leads to has to be as long as the function takes it for, and `const` where the function only reads.
 """

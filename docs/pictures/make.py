@@ -659,8 +659,8 @@ FLOORS = {
     "capi": ("C: what the header is made of", TEAL, ("kit", "ground", "wire", "host", "card", "theorem", "text", "replay", "face")),
 }
 NAMED = {
-    "seq": "ground", "bitmap": "ground", "octets": "ground", "refusal": "ground", "hex_fields": "ground", "delivery": "theorem", "edges": "theorem",
-    "logwhisker": "face", "hex": "text", "bytes": "kit", "io": "kit", "libc": "kit", "os": "kit",
+    "seq": "ground", "bitmap": "ground", "octets": "ground", "refusal": "ground", "hex": "ground", "delivery": "theorem", "edges": "theorem",
+    "logwhisker": "face", "bytes": "kit", "io": "kit", "libc": "kit", "os": "kit",
 }
 PROGRAMS = {"replay", "replay_plain"}
 

@@ -2,7 +2,12 @@
 // is lent, and written to inside the slot of that frame only. Assumes nothing of words, slots and data. It promises
 // what card/specs/Card.antt says of the card that the words hold, every byte of the slots, and that a refused adding
 // changes no word.
+pub mod admit;
+pub mod number;
+pub mod opening;
+
 use card::Sending;
+use card_words::store;
 use seq::FrameNo;
 use seq::TransNo;
 use wire::MessageHeader;
@@ -90,7 +95,7 @@ fn count_message(words: &mut [u64], t: TransNo, payload: &[u8])
     let h = card_words::head_of(words);
     let frame = h.next;
     let e = card_words::sending_at(words, t);
-    card_store::put_sending(
+    store::put_sending(
         words,
         t,
         Sending {
@@ -101,11 +106,11 @@ fn count_message(words: &mut [u64], t: TransNo, payload: &[u8])
             frame,
         },
     );
-    let start = card_admit::header_offset(h.used);
+    let start = admit::header_offset(h.used);
     let mut next = h;
     next.used = (start + wire::MESSAGE_HEADER + payload.len()) as u16;
     next.last = start as u16;
-    card_store::put_head(words, next);
+    store::put_head(words, next);
 }
 
 // ---- adding it
@@ -123,7 +128,7 @@ pub fn add_message(words: &mut [u64], slots: &mut [u8], t: TransNo, at: u32, pay
     if words.len() != card_words::CARD_WORDS {
         return card_words::NOT_CARD;
     }
-    let refusal = card_admit::add_refusal(words, slots, t, payload);
+    let refusal = admit::add_refusal(words, slots, t, payload);
     if refusal != 0 {
         return refusal;
     }

@@ -1,5 +1,7 @@
 // A card in 85 words that a caller lends, and reading its parts. Assumes nothing of the words: any are a card, which
 // specs/Words.antt decodes. It promises by that decoding what is read.
+pub mod store;
+
 use card::Sending;
 use seq::FrameNo;
 use seq::TransNo;

@@ -6,7 +6,7 @@ use mathlib.Core.Bool.{Bool, true, false, _&&_, and-eq-true-iff}
 use mathlib.Core.List.{List, []}
 use borrow.Author.Tests.{eqb-true}
 use lib.Dec.{T, eqb, lit<}
-use Rattle.hex_fields.specs.Fields.{
+use Rattle.hex.specs.Fields.{
   digitOf,
   valueOf,
   hex,

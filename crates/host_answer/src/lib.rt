@@ -2,6 +2,7 @@
 // nothing: any words have an answer. It promises host/specs/Host.antt, answerWords and acknowledgementOf.
 use host::Acknowledgement;
 use host::Answer;
+use host_words::pair;
 use seq::FrameNo;
 ghost use mathlib.Core.Path.{_≡_};
 ghost use mathlib.Core.List.{[], _∷_};
@@ -112,7 +113,7 @@ pub fn kind_of(answer: Answer) -> u32
 pub fn acknowledge_in_place(words: &[u64], answer: Answer, number: FrameNo) -> Acknowledgement
     ensures { λ r. ⌜ r ≡ acknowledgementOf (pairOf (now (words .entry))) answer (number .0) ⌝ }
 {
-    host_pair::acknowledge_from(
+    pair::acknowledge_from(
         host_words::own(words),
         host_words::peer(words),
         answer,

@@ -9,6 +9,7 @@ use seq::FrameNo;
 use seq::TransNo;
 use wire::MessageHeader;
 use wire_read::Found;
+use wire_read::layout;
 ghost use mathlib.Core.Path.{_≡_};
 ghost use Prim.Native.Nat.{_≤_, _<_};
 ghost use lib.ListN.{length};
@@ -363,7 +364,7 @@ pub fn receive(pair: PlainPair, f: &[u8], memory: &mut [u8]) -> PlainStepped
     ensures { λ r. ⌜ r ≡ plain.steppedOf (plain.receiveOf pair (now (f .entry)) (now (memory .entry))) ⌝ }
     ensures { λ _. ⌜ now (memory .exit) ≡ plain.receiveOf pair (now (f .entry)) (now (memory .entry)) .memory ⌝ }
 {
-    let stop = wire_layout::refusal_of(f, pair.own, pair.peer);
+    let stop = layout::refusal_of(f, pair.own, pair.peer);
     if stop != 0 {
         return refuse(pair, stop, 0);
     }

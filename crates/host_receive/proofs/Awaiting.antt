@@ -46,14 +46,14 @@ use Rattle.host.proofs.Receiving.{
   by-number-new,
 }
 use Rattle.host.specs.Transactions.{Transactions}
-use Rattle.host_run.proofs.Counting.{at-behind, at-window, after-accepting}
+use Rattle.host_receive.proofs.run.Counting.{at-behind, at-window, after-accepting}
 use Rattle.host_words.specs.Words.{headPart, joined}
-use Rattle.host_validate.specs.declared.Validated.{Validated}
-use Rattle.host_validate.specs.Validating.{noneYet, validatedFrom, validatedOf}
-use Rattle.host_validate.proofs.Walk.{validated-short}
-use Rattle.host_apply.specs.Applying.{appliedFrom}
-use Rattle.host_refuse.specs.Refusing.{refusedWith, numberAnswered}
-use Rattle.host_number.specs.Numbering.{acceptedHead, runOfAccepted}
+use Rattle.host_receive.specs.declared.validate.Validated.{Validated}
+use Rattle.host_receive.specs.Validating.{noneYet, validatedFrom, validatedOf}
+use Rattle.host_receive.proofs.validate.Walk.{validated-short}
+use Rattle.host_receive.specs.Applying.{appliedFrom}
+use Rattle.host_receive.specs.Refusing.{refusedWith, numberAnswered}
+use Rattle.host_receive.specs.Numbering.{acceptedHead, runOfAccepted}
 use Rattle.host_receive.specs.Receiving.{Awaited}
 use Rattle.host_receive.proofs.Passes.{tallyOfBoth, taken-all, not-taken-all, validated-cut}
 

@@ -24,11 +24,17 @@ use Rattle.host.specs.Transactions.{fills, leftIn, closing, holding, Transactio
 use Rattle.host.specs.Host.{effect, Tally, takeIn, fine, wrong, takeAll}
 use Rattle.host.proofs.Judging.{closes, holds}
 use Rattle.host.proofs.Receiving.{length-effect}
-use Rattle.host_validate.specs.declared.Validated.{Validated}
-use Rattle.host_validate.specs.Validating.{Progress, onward, passed, validatedFrom}
-use Rattle.host_validate.proofs.Walk.{its-verdict, validated-past, validated-stops, validated-last, validated-more}
-use Rattle.host_apply.specs.Applying.{Applied, appliedFrom}
-use Rattle.host_apply.proofs.Walk.{applied-more}
+use Rattle.host_receive.specs.declared.validate.Validated.{Validated}
+use Rattle.host_receive.specs.Validating.{Progress, onward, passed, validatedFrom}
+use Rattle.host_receive.proofs.validate.Walk.{
+  its-verdict,
+  validated-past,
+  validated-stops,
+  validated-last,
+  validated-more,
+}
+use Rattle.host_receive.specs.Applying.{Applied, appliedFrom}
+use Rattle.host_receive.proofs.apply.Walk.{applied-more}
 
 -- ---- what a message that is not refused does, by its entry
 

@@ -5,7 +5,7 @@ use mathlib.Core.List.{List, [], _∷_}
 use lib.Dec.{eqb}
 use Rattle.host.specs.declared.Open.{Open}
 use Rattle.host.specs.declared.Pair.{Pair}
-use Rattle.host_describe.specs.Describing.{numberAt, entryAt}
+use Rattle.host_words.specs.Describing.{numberAt, entryAt}
 use Rattle.host_stored.specs.Form.{openOf}
 
 -- Of an entry, and of the transaction j past the lowest one.

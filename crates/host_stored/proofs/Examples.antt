@@ -8,7 +8,7 @@ use Rattle.octets.specs.Octets.{little, value, field}
 use Rattle.seq.specs.Ring.{distance, advance}
 use Rattle.bitmap.specs.Marks.{mark}
 use Rattle.host.specs.declared.Pair.{Pair}
-use Rattle.hex_fields.specs.Fields.{
+use Rattle.hex.specs.Fields.{
   digitOf,
   valueOf,
   hex,

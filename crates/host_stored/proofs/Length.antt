@@ -11,7 +11,7 @@ use Rattle.seq.specs.Ring.{advance, transSpace}
 use Rattle.host.specs.declared.Open.{Open}
 use Rattle.host.specs.Terms.{free}
 use Rattle.host.specs.declared.Pair.{Pair}
-use Rattle.hex_fields.specs.Fields.{hex, laid, lineOf, linesOf}
+use Rattle.hex.specs.Fields.{hex, laid, lineOf, linesOf}
 use Rattle.host_stored.specs.Form.{headWidths, openWidths, headOf, openOf, opensFrom, opensOf, textAs}
 
 pub head-length : (version : ℕ) (p : Pair) → length (lineOf headWidths (headOf version p)) ≡ 47

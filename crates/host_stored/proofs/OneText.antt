@@ -17,7 +17,7 @@ use Rattle.host.specs.declared.Open.{Open}
 use Rattle.host.specs.Terms.{free}
 use Rattle.host.specs.declared.Pair.{Pair}
 use Rattle.host.specs.declared.Opened.{Opened}
-use Rattle.hex_fields.specs.Fields.{
+use Rattle.hex.specs.Fields.{
   Fitting,
   no-more,
   and,
@@ -28,7 +28,7 @@ use Rattle.hex_fields.specs.Fields.{
   readLine,
   readAll,
 }
-use Rattle.hex_fields.proofs.BothWays.{
+use Rattle.hex.proofs.fields.BothWays.{
   both,
   line-reads,
   line-behind,

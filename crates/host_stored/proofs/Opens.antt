@@ -17,8 +17,8 @@ use Rattle.bitmap.specs.Marks.{mark}
 use Rattle.host.specs.declared.Open.{Open}
 use Rattle.host.specs.Terms.{free}
 use Rattle.host.proofs.Reachable.{entry-is}
-use Rattle.hex_fields.specs.Fields.{Fitting, no-more, and, AllFitting, no-line, line}
-use Rattle.hex_fields.proofs.BothWays.{both}
+use Rattle.hex.specs.Fields.{Fitting, no-more, and, AllFitting, no-line, line}
+use Rattle.hex.proofs.fields.BothWays.{both}
 use Rattle.host_stored.specs.Form.{
   openWidths,
   openOf,

@@ -8,7 +8,7 @@ use lib.Dec.{eqb, leb, ltb}
 use lib.ListN.{length, getD, set, replicate, drop}
 use Rattle.seq.specs.Ring.{distance, advance, transSpace}
 use Rattle.bitmap.specs.Marks.{mark}
-use Rattle.hex_fields.specs.Fields.{lineOf, linesOf, lineLength, readLine, readAll}
+use Rattle.hex.specs.Fields.{lineOf, linesOf, lineLength, readLine, readAll}
 use Rattle.host.specs.declared.Open.{Open}
 use Rattle.host.specs.declared.Pair.{Pair}
 use Rattle.host.specs.declared.Opened.{Opened}

@@ -1,5 +1,11 @@
 // The charging host's pair in 67 words that a caller lends, read where it lies. Assumes nothing of the words or of
 // their number: a word that is not there is 0. It promises the pair that the words hold (specs/Words.antt).
+pub mod describe;
+pub mod opening;
+pub mod pack;
+pub mod pair;
+pub mod update;
+
 use host::Open;
 use seq::FrameNo;
 use seq::TransNo;

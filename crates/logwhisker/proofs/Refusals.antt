@@ -9,10 +9,10 @@ use lib.Dec.{eqb}
 use lib.ListN.{length}
 use Rattle.card.specs.Card.{isAck, chooseRefusal}
 use Rattle.card_words.specs.Words.{cardOf}
-use Rattle.card_show.specs.declared.Showing.{Showing}
-use Rattle.card_show.specs.Parts.{shownPart}
-use Rattle.card_choose.specs.declared.Choice.{Choice}
-use Rattle.card_choose.specs.Choices.{chosenPart}
+use Rattle.card_send.specs.declared.show.Showing.{Showing}
+use Rattle.card_send.specs.Parts.{shownPart}
+use Rattle.card_send.specs.declared.choose.Choice.{Choice}
+use Rattle.card_send.specs.Choices.{chosenPart}
 use Rattle.logwhisker.specs.Face.{frameShown, nextChosen}
 
 showing-carries : (r : ℕ) (x y : Showing) → x .refusal ≡ 0 → y .refusal ≡ r → cond (eqb r 0) x y .refusal ≡ r

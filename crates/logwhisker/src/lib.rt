@@ -4,11 +4,14 @@
 // says, which is what the theorems of the crates delivery and delivery_restarts are about; what it passes on promises
 // by the definitions of its own crate.
 pub use bitmap::word64::trailing_ones;
-pub use card_choose::Choice;
-pub use card_number::OpenedTransaction;
-pub use card_number::SealedFrame;
-pub use card_show::Part;
-pub use card_show::Showing;
+use card_build::number;
+pub use card_build::number::OpenedTransaction;
+pub use card_build::number::SealedFrame;
+use card_send::choose;
+pub use card_send::choose::Choice;
+use card_send::show;
+pub use card_send::show::Part;
+pub use card_send::show::Showing;
 pub use host::Acknowledgement;
 pub use host::Answer;
 pub use host::Pair;
@@ -20,30 +23,36 @@ pub use host_plain::PlainPair;
 pub use host_plain::PlainStepped;
 pub use host_plain::open_pair as open_plain_host;
 pub use host_plain::receive as receive_plainly;
+use host_receive::by_value;
+use host_store::restore;
+use host_store::store;
 pub use host_stored::Stored;
+use host_words::describe;
+use host_words::opening;
+use host_words::pair;
 pub use refusal::class_number;
 pub use refusal::class_of;
 pub use replay_feed::close as close_replay;
 pub use replay_feed::feed as feed_replay;
 pub use replay_feed::open as open_replay;
-pub use replay_line::Totals;
-pub use replay_place::Closed;
-pub use replay_place::Fed;
-pub use replay_place::is_full as is_replay_full;
 pub use replay_text::Reply;
+pub use replay_text::line::Totals;
+pub use replay_text::place::Closed;
+pub use replay_text::place::Fed;
+pub use replay_text::place::is_full as is_replay_full;
 pub use seq::FrameNo;
 pub use seq::TransNo;
-pub use wire_layout::Layout;
-pub use wire_layout::layout_of;
+pub use wire_read::layout::Layout;
+pub use wire_read::layout::layout_of;
 ghost use mathlib.Core.Path.{_≡_};
 ghost use Rattle.host_words.specs.Words.{pairOf};
 ghost use Rattle.card_words.specs.Words.{cardOf};
 ghost use Rattle.card.specs.Card.{openTransaction, sealFrame};
 ghost use Rattle.host.specs.Host.{steppedOf, LeavesWords, answerOf};
-ghost use Rattle.host_describe.specs.Describing.{description};
+ghost use Rattle.host_words.specs.Describing.{description};
 ghost use Rattle.delivery.specs.System.{specifiedHost};
-ghost use Rattle.card_show.specs.Parts.{shownPart};
-ghost use Rattle.card_choose.specs.Choices.{chosenPart};
+ghost use Rattle.card_send.specs.Parts.{shownPart};
+ghost use Rattle.card_send.specs.Choices.{chosenPart};
 ghost use Rattle.logwhisker.specs.Face.{
   hostOpened,
   received,
@@ -68,7 +77,7 @@ pub fn open_host(words: &mut [u64; 67], own: u16, peer: u16) -> u8
     ensures { λ r. ⌜ r ≡ hostOpened own peer .refusal .number ⌝ }
     ensures { λ _. ⌜ pairOf (now (words .exit)) ≡ hostOpened own peer .pair ⌝ }
 {
-    host_open::open_in_place(words, own, peer)
+    opening::open_in_place(words, own, peer)
 }
 
 // Receives a frame. Words and memory change only where it is accepted.
@@ -107,7 +116,7 @@ pub fn acknowledge_words(
 pub fn describe_host(words: &[u64; 67]) -> [u64; 167]
     ensures { λ r. ⌜ r ≡ description (pairOf (now (words .entry))) ⌝ }
 {
-    host_describe::describe(words)
+    describe::describe(words)
 }
 
 // Stores a host's pair as text from the start of a lent buffer on, and gives the text's length; 13 where an ID is 0,
@@ -116,7 +125,7 @@ pub fn store_host(words: &[u64; 67], buffer: &mut [u8]) -> Stored
     ensures { λ r. ⌜ r ≡ hostStored (now (words .entry)) (now (buffer .entry)) ⌝ }
     ensures { λ _. ⌜ now (buffer .exit) ≡ bufferFilled (now (words .entry)) (now (buffer .entry)) ⌝ }
 {
-    host_store::store(words, buffer)
+    store::store(words, buffer)
 }
 
 // Reads a host's pair back from its text; 15 where no pair has that text, and then the host is a fresh one with both
@@ -125,7 +134,7 @@ pub fn restore_host(words: &mut [u64; 67], text: &[u8]) -> u8
     ensures { λ r. ⌜ r ≡ hostRestored (now (text .entry)) .refusal .number ⌝ }
     ensures { λ _. ⌜ pairOf (now (words .exit)) ≡ hostRestored (now (text .entry)) .pair ⌝ }
 {
-    host_restore::restore(words, text)
+    restore::restore(words, text)
 }
 
 // ---- the host by value
@@ -136,14 +145,14 @@ pub fn receive_by_value(pair: Pair, frame: &[u8], memory: &mut [u8]) -> Stepped
     ensures { λ _. ⌜ now (memory .exit)
         ≡ specifiedHost .receiving pair (now (frame .entry)) (now (memory .entry)) .memory ⌝ }
 {
-    host_by_value::receive(pair, frame, memory)
+    by_value::receive(pair, frame, memory)
 }
 
 // The acknowledgement that an answer calls for, from a pair as a value.
 pub fn acknowledge_by_value(pair: Pair, answer: Answer, number: FrameNo) -> Acknowledgement
     ensures { λ r. ⌜ r ≡ specifiedHost .acknowledging pair answer (number .0) ⌝ }
 {
-    host_pair::acknowledge(pair, answer, number)
+    pair::acknowledge(pair, answer, number)
 }
 
 // ---- the card, in 85 words
@@ -154,7 +163,7 @@ pub fn open_card(words: &mut [u64; 85], own: u16, peer: u16, limit: usize, slots
     ensures { λ r. ⌜ r ≡ cardOpened own peer limit (now (slots .entry)) .refusal ⌝ }
     ensures { λ _. ⌜ cardOf (now (words .exit)) ≡ cardOpened own peer limit (now (slots .entry)) .card ⌝ }
 {
-    card_open::open_card(words, own, peer, limit, slots)
+    card_build::opening::open_card(words, own, peer, limit, slots)
 }
 
 // Opens a transaction of count data messages whose completion writes value at address, and gives its number; 20 where
@@ -170,7 +179,7 @@ pub fn open_transaction(
     ensures { λ _. ⌜ cardOf (now (words .exit)) ≡ transactionOpened (now (words .entry)) count address value .card ⌝ }
     ensures { λ r. ⌜ LeftIfRefused (r .refusal) (now (words .entry)) (now (words .exit)) ⌝ }
 {
-    card_number::open_transaction(words, count, address, value)
+    number::open_transaction(words, count, address, value)
 }
 
 // Adds one message of a transaction, with data for an address, to the frame being built.
@@ -199,7 +208,7 @@ pub fn seal_frame(words: &mut [u64; 85], slots: &[u8]) -> SealedFrame
     ensures { λ _. ⌜ cardOf (now (words .exit)) ≡ frameSealed (now (words .entry)) (now (slots .entry)) .card ⌝ }
     ensures { λ r. ⌜ LeftIfRefused (r .refusal) (now (words .entry)) (now (words .exit)) ⌝ }
 {
-    card_number::seal_frame(words, slots)
+    number::seal_frame(words, slots)
 }
 
 // Reads the acknowledgements of an arriving frame.
@@ -215,14 +224,14 @@ pub fn read_acknowledgements(words: &mut [u64; 85], frame: &[u8]) -> u8
 pub fn show_frame<'a>(words: &[u64; 85], slots: &'a [u8], number: FrameNo) -> &'a [u8]
     ensures { λ r. ⌜ now r ≡ frameShown (now (words .entry)) (now (slots .entry)) (number .0) .part ⌝ }
 {
-    card_show::show_frame(words, slots, number)
+    show::show_frame(words, slots, number)
 }
 
 // The refusal of showing a frame, 0 for none.
 pub fn show_refusal(words: &[u64; 85], slots: &[u8], number: FrameNo) -> u8
     ensures { λ r. ⌜ r ≡ frameShown (now (words .entry)) (now (slots .entry)) (number .0) .refusal ⌝ }
 {
-    card_show::show_refusal(words, slots, number)
+    show::show_refusal(words, slots, number)
 }
 
 // Chooses what goes out next: the lent acknowledgement if it has 10 bytes, else the oldest held frame, each as a part
@@ -230,14 +239,14 @@ pub fn show_refusal(words: &[u64; 85], slots: &[u8], number: FrameNo) -> u8
 pub fn choose_next<'a>(words: &[u64; 85], slots: &'a [u8], ack: &'a [u8]) -> &'a [u8]
     ensures { λ r. ⌜ now r ≡ nextChosen (now (words .entry)) (now (slots .entry)) (now (ack .entry)) .part ⌝ }
 {
-    card_choose::choose_next(words, slots, ack)
+    choose::choose_next(words, slots, ack)
 }
 
 // The refusal of choosing, 0 for none.
 pub fn choose_refusal(words: &[u64; 85], slots: &[u8], ack: &[u8]) -> u8
     ensures { λ r. ⌜ r ≡ nextChosen (now (words .entry)) (now (slots .entry)) (now (ack .entry)) .refusal ⌝ }
 {
-    card_choose::choose_refusal(words, slots, ack)
+    choose::choose_refusal(words, slots, ack)
 }
 
 // ---- parts as numbers, for callers that no reference can be handed back to
@@ -247,7 +256,7 @@ pub fn show_part(words: &[u64; 85], slots: &[u8], number: FrameNo) -> Showing
     ensures { λ r. ⌜ r ≡ shownPart (now (words .entry)) (now (slots .entry)) (number .0) ⌝ }
     ensures { λ r. ⌜ r .refusal ≡ frameShown (now (words .entry)) (now (slots .entry)) (number .0) .refusal ⌝ }
 {
-    card_show::show_part(words, slots, number)
+    show::show_part(words, slots, number)
 }
 
 // Where the part that choose_next hands out lies, in the slots or in the lent acknowledgement, and its refusal.
@@ -255,5 +264,5 @@ pub fn choose_part(words: &[u64; 85], slots: &[u8], ack: &[u8]) -> Choice
     ensures { λ r. ⌜ r ≡ chosenPart (now (words .entry)) (now (slots .entry)) (now (ack .entry)) ⌝ }
     ensures { λ r. ⌜ r .refusal ≡ nextChosen (now (words .entry)) (now (slots .entry)) (now (ack .entry)) .refusal ⌝ }
 {
-    card_choose::choose_part(words, slots, ack)
+    choose::choose_part(words, slots, ack)
 }

@@ -4,6 +4,7 @@
 // Where one of them fails, that is said on standard error and no totals are written: a program has no exit status, so
 // it is the last line that tells a whole replay.
 use replay_output::Room;
+use replay_text::place;
 
 // Feeds a piece until it is taken whole, and puts the answer of each line that ends in it into the output buffer. No
 // call on an open replay takes nothing of what is left; the test is there since a loop that is proved has to end.
@@ -64,7 +65,7 @@ fn read_all(
         if room.failed {
             return room;
         }
-        if replay_place::is_full(place) {
+        if place::is_full(place) {
             return room;
         }
     }

@@ -5,7 +5,7 @@ use Prim.Native.Nat.{ℕ}
 use mathlib.Core.List.{List}
 use Rattle.host_words.specs.Words.{pairOf}
 use Rattle.replay_text.specs.Feeding.{Replaying, atStart}
-use Rattle.replay_place.specs.Place.{stateOf}
+use Rattle.replay_text.specs.Place.{stateOf}
 
 abbrev pub replayingOf : List ℕ → List ℕ → List ℕ → List ℕ → Replaying
 replayingOf place words frame memory = stateOf place (pairOf words) frame memory

@@ -2,19 +2,22 @@
 // caller lends. Assumes nothing: any words are a state, and any characters get an answer. It promises the calls of
 // replay_text/specs/Feeding.antt on the state that is lent (specs/State.antt), of which
 // replay_text/proofs/Fragments.antt shows that any way to cut a text gives the answers of the whole text.
-use hex_line::Line;
+use hex::line::Line;
 use host::Answer;
 use host::Refusal;
-use replay_place::Closed;
-use replay_place::Fed;
+use host_words::opening;
 use replay_text::Reply;
+use replay_text::line;
+use replay_text::place;
+use replay_text::place::Closed;
+use replay_text::place::Fed;
 ghost use mathlib.Core.Path.{_≡_};
 ghost use mathlib.Core.List.{[], _∷_};
 ghost use lib.ListN.{replicate};
 ghost use Rattle.host_words.specs.Words.{pairOf};
-ghost use Rattle.replay_line.specs.Report.{answeredLine};
+ghost use Rattle.replay_text.specs.Report.{answeredLine};
 ghost use Rattle.replay_text.specs.Feeding.{feed as feedOf, close as closeOf, LeftIfClosed};
-ghost use Rattle.replay_place.specs.Place.{fedOf, closedOf, counted, Answers};
+ghost use Rattle.replay_text.specs.Place.{fedOf, closedOf, counted, Answers};
 ghost use Rattle.replay_feed.specs.State.{replayingOf, OpensReplay};
 
 // Opens a replay: its host has ID 1 and the peer 2, and the memory is all zero.
@@ -24,7 +27,7 @@ pub fn open(place: &mut [u64; 9], words: &mut [u64; 67], memory: &mut [u8; 4096]
 {
     *place = [0u64; 9];
     *memory = [0u8; 4096];
-    host_open::open_in_place(words, replay_place::OWN, replay_place::PEER);
+    opening::open_in_place(words, place::OWN, place::PEER);
 }
 
 // Answers a line that has ended, its bytes at the start of frame; the host is in words.
@@ -36,7 +39,7 @@ fn answer_line(words: &mut [u64; 67], line: Line, frame: &[u8], memory: &mut [u8
     ensures { λ _. ⌜ now (memory .exit)
         ≡ answeredLine (pairOf (now (words .entry))) line (now (frame .entry)) (now (memory .entry)) .memory ⌝ }
 {
-    let number = replay_line::line_refusal(line);
+    let number = line::line_refusal(line);
     if number != 0 {
         return Answer::Refused(Refusal { number, place: 0 });
     }
@@ -54,9 +57,9 @@ fn end_line(
         (now (memory .entry)) r (pairOf (now (words .exit))) (now (memory .exit)) ⌝ }
     ensures { λ r. ⌜ now (place .exit) ≡ counted (now (place .entry)) r ⌝ }
 {
-    let line = replay_place::line_in(place);
+    let line = place::line_in(place);
     let answer = answer_line(words, line, frame, memory);
-    replay_place::count_answer(place, answer);
+    place::count_answer(place, answer);
     answer
 }
 
@@ -82,7 +85,7 @@ pub fn feed(
         (now (place .entry) ∷ now (words .entry) ∷ now (frame .entry) ∷ now (memory .entry) ∷ [])
         (now (place .exit) ∷ now (words .exit) ∷ now (frame .exit) ∷ now (memory .exit) ∷ []) ⌝ }
 {
-    let got = replay_place::take_in(place, frame, fragment);
+    let got = place::take_in(place, frame, fragment);
     let taken = got.taken;
     if got.ended {
         let answer = end_line(place, words, frame, memory);
@@ -114,14 +117,14 @@ pub fn close(
         (now (place .exit) ∷ now (words .exit) ∷ now (memory .exit) ∷ []) ⌝ }
 {
     let held: &[u8] = frame;
-    if replay_place::has_last(place) {
+    if place::has_last(place) {
         let answer = end_line(place, words, held, memory);
-        let end = replay_place::close(place);
+        let end = place::close(place);
         let totals = end.totals;
         return Closed {
             reply: Reply::Answered(answer),
             totals,
         };
     }
-    replay_place::close(place)
+    place::close(place)
 }

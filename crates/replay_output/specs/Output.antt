@@ -4,8 +4,8 @@ use Prim.Native.Nat.{ℕ, _+_, _≤_, _<_}
 use mathlib.Core.Bool.{Bool, true, false}
 use mathlib.Core.List.{List}
 use lib.ListN.{length}
-use Rattle.text_answer.specs.AnswerLine.{lineEnd, withLine}
-use Rattle.replay_line.specs.Report.{letterOf, numbersOf}
+use Rattle.replay_text.specs.AnswerLine.{lineEnd, withLine}
+use Rattle.replay_text.specs.Report.{letterOf, numbersOf}
 use Rattle.replay_text.specs.declared.Reply.{Reply}
 use Rattle.replay_text.specs.declared.Reply.the-variants.{Answered, Nothing, Refused}
 use Rattle.replay_output.specs.declared.Room.{Room}

@@ -3,13 +3,15 @@
 // succeeds, no rule says: there a promise only limits the result. All else it promises as specs/Output.antt says.
 use libc::STDIN_FILENO;
 use libc::STDOUT_FILENO;
-use replay_line::Totals;
 use replay_text::Reply;
+use replay_text::answer;
+use replay_text::line;
+use replay_text::line::Totals;
 ghost use mathlib.Core.Path.{_≡_};
 ghost use mathlib.Core.List.{[], _∷_};
 ghost use Prim.Native.Nat.{_≤_};
 ghost use lib.ListN.{length};
-ghost use Rattle.text_answer.specs.AnswerLine.{lineEnd, withLine};
+ghost use Rattle.replay_text.specs.AnswerLine.{lineEnd, withLine};
 ghost use Rattle.replay_output.specs.Output.{stopped, roomAfter, outAfter, Writes, Makes};
 
 // How much of the output buffer is used, and whether reading or writing failed, or an answer was lost.
@@ -70,7 +72,7 @@ pub fn make_room(out: &[u8], used: usize, failed: bool) -> Room
             failed: true,
         };
     }
-    if text_answer::LINE_MOST <= out.len() - used {
+    if answer::LINE_MOST <= out.len() - used {
         return Room { used, failed };
     }
     if write_out(out, used) {
@@ -89,7 +91,7 @@ pub fn put_reply(out: &mut [u8], room: Room, reply: Reply) -> Room
 {
     match reply {
         Reply::Answered(answer) => {
-            let used = replay_line::put_answer(out, room.used, answer);
+            let used = line::put_answer(out, room.used, answer);
             Room {
                 used,
                 failed: room.failed,
@@ -108,7 +110,7 @@ pub fn put_totals(out: &mut [u8], at: usize, totals: Totals) -> usize
         ≡ withLine (now (out .entry)) at 84 (totals .messages ∷ totals .bytes ∷ totals .completed ∷ []) ⌝ }
 {
     let numbers = [totals.messages, totals.bytes, totals.completed];
-    text_answer::put_line(out, at, b'T', &numbers)
+    answer::put_line(out, at, b'T', &numbers)
 }
 
 // Where the program stands once reading has failed: the answers so far are written, and it goes no further.

@@ -5,6 +5,7 @@
 // it is the last line that tells a whole replay.
 use host_plain::PlainPair;
 use replay_output::Room;
+use replay_text::place;
 
 // What a piece, or the whole input, leaves: the pair, and how far the output buffer is used.
 struct Reached {
@@ -78,7 +79,7 @@ fn read_all(
         if room.failed {
             return Reached { pair, room };
         }
-        if replay_place::is_full(place) {
+        if place::is_full(place) {
             return Reached { pair, room };
         }
     }

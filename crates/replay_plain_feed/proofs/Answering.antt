@@ -6,14 +6,14 @@ use Prim.Native.Nat.{ℕ}
 use borrow.Author.Tests.{eq-eqb, ne-eqb}
 use lib.ListN.{take}
 use Rattle.bitmap.specs.Marks.{marksOf}
-use Rattle.hex_line.specs.declared.Line.{Line}
+use Rattle.hex.specs.declared.line.Line.{Line}
 use Rattle.host.specs.Host.{Received, fresh, unchanged, refused}
 use Rattle.host_plain.specs.declared.PlainPair.{PlainPair}
 use Rattle.host_plain.specs.declared.PlainStepped.{PlainStepped}
 use Rattle.host_plain.specs.Plain as plain
 use Rattle.host_equal.specs.Described.{TypedPlain, wordOf, pairOfPlain}
 use Rattle.host_equal.proofs.Equality.{receivedOfPlain, receive-commutes}
-use Rattle.replay_line.specs.Report.{lineRefusal, answeredLine}
+use Rattle.replay_text.specs.Report.{lineRefusal, answeredLine}
 
 module _ (q : PlainPair) (line : Line) (frame memory : List ℕ) (number : ℕ) (n : number ≡ lineRefusal line) where
   abbrev pub Says : PlainStepped → List ℕ → Type 0

@@ -7,7 +7,7 @@ use mathlib.Core.List.{List}
 use Rattle.host_plain.specs.declared.PlainPair.{PlainPair}
 use Rattle.host_equal.specs.Described.{pairOfPlain}
 use Rattle.replay_text.specs.Feeding.{Replaying, atStart}
-use Rattle.replay_place.specs.Place.{stateOf}
+use Rattle.replay_text.specs.Place.{stateOf}
 
 abbrev pub replayingOf : List ℕ → PlainPair → List ℕ → List ℕ → Replaying
 replayingOf place pair frame memory = stateOf place (pairOfPlain pair) frame memory

@@ -2,21 +2,23 @@
 // closing, in place over what a caller lends, but for the pair, which goes in and out by value. Assumes nothing: any
 // words and any pair are a state. It promises the calls that replay_feed promises (replay_text/specs/Feeding.antt) on
 // the state that is lent (specs/State.antt), so the two can't be told apart.
-use hex_line::Line;
+use hex::line::Line;
 use host::Answer;
 use host::Refusal;
 use host_plain::PlainPair;
 use host_plain::PlainStepped;
-use replay_place::Closed;
-use replay_place::Fed;
 use replay_text::Reply;
+use replay_text::line;
+use replay_text::place;
+use replay_text::place::Closed;
+use replay_text::place::Fed;
 ghost use mathlib.Core.Path.{_≡_};
 ghost use mathlib.Core.List.{[], _∷_};
 ghost use lib.ListN.{replicate};
 ghost use Rattle.host_equal.specs.Described.{pairOfPlain};
-ghost use Rattle.replay_line.specs.Report.{answeredLine};
+ghost use Rattle.replay_text.specs.Report.{answeredLine};
 ghost use Rattle.replay_text.specs.Feeding.{feed as feedOf, close as closeOf, LeftIfClosed};
-ghost use Rattle.replay_place.specs.Place.{fedOf, closedOf, counted, Answers};
+ghost use Rattle.replay_text.specs.Place.{fedOf, closedOf, counted, Answers};
 ghost use Rattle.replay_plain_feed.specs.State.{replayingOf, OpensReplay};
 
 // What feeding answers, and the pair then.
@@ -38,7 +40,7 @@ pub fn open(place: &mut [u64; 9], memory: &mut [u8; 4096]) -> PlainPair
 {
     *place = [0u64; 9];
     *memory = [0u8; 4096];
-    let opened = host_plain::open_pair(replay_place::OWN, replay_place::PEER);
+    let opened = host_plain::open_pair(place::OWN, place::PEER);
     opened.pair
 }
 
@@ -51,7 +53,7 @@ fn answer_line(pair: PlainPair, line: Line, frame: &[u8], memory: &mut [u8]) -> 
     ensures { λ _. ⌜ now (memory .exit)
         ≡ answeredLine (pairOfPlain pair) line (now (frame .entry)) (now (memory .entry)) .memory ⌝ }
 {
-    let number = replay_line::line_refusal(line);
+    let number = line::line_refusal(line);
     if number != 0 {
         let answer = Answer::Refused(Refusal { number, place: 0 });
         return PlainStepped { pair, answer };
@@ -70,10 +72,10 @@ fn end_line(
         (r .answer) (pairOfPlain (r .pair)) (now (memory .exit)) ⌝ }
     ensures { λ r. ⌜ now (place .exit) ≡ counted (now (place .entry)) (r .answer) ⌝ }
 {
-    let line = replay_place::line_in(place);
+    let line = place::line_in(place);
     let stepped = answer_line(pair, line, frame, memory);
     let answer = stepped.answer;
-    replay_place::count_answer(place, answer);
+    place::count_answer(place, answer);
     stepped
 }
 
@@ -100,7 +102,7 @@ pub fn feed(
         (now (place .exit) ∷ now (frame .exit) ∷ now (memory .exit) ∷ []) ⌝ }
     ensures { λ r. ⌜ LeftIfClosed (r .fed .reply) pair (r .pair) ⌝ }
 {
-    let got = replay_place::take_in(place, frame, fragment);
+    let got = place::take_in(place, frame, fragment);
     let taken = got.taken;
     if got.ended {
         let stepped = end_line(place, pair, frame, memory);
@@ -135,16 +137,16 @@ pub fn close(
     ensures { λ r. ⌜ LeftIfClosed (r .closed .reply) pair (r .pair) ⌝ }
 {
     let held: &[u8] = frame;
-    if replay_place::has_last(place) {
+    if place::has_last(place) {
         let stepped = end_line(place, pair, held, memory);
         let answer = stepped.answer;
-        let end = replay_place::close(place);
+        let end = place::close(place);
         let totals = end.totals;
         let reply = Reply::Answered(answer);
         let closed = Closed { reply, totals };
         let last = stepped.pair;
         return PlainClosed { pair: last, closed };
     }
-    let closed = replay_place::close(place);
+    let closed = place::close(place);
     PlainClosed { pair, closed }
 }

@@ -10,7 +10,7 @@ use borrow.Author.Tests.{le-leb, lt-leb}
 use lib.Dec.{leb, eqb}
 use lib.ListN.{length, drop, length-drop, drop-of-length-le}
 use lib.Seq.{drop-length}
-use Rattle.hex_line.specs.Line.{upToNewline, hasNewline}
+use Rattle.hex.specs.Line.{upToNewline, hasNewline}
 use Rattle.host.specs.declared.Answer.{Answer}
 use Rattle.replay_text.specs.declared.Reply.{Reply}
 use Rattle.replay_text.specs.declared.Reply.the-variants.{Answered, Nothing, Refused}

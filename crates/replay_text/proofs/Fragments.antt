@@ -6,7 +6,7 @@ use mathlib.Core.Bool.{Bool, true, false}
 use mathlib.Core.List.{List, [], append-nil}
 use Prim.Native.Nat.{ℕ, _≤_}
 use lib.ListN.{length, take}
-use Rattle.hex_line.specs.Line.{hasNewline}
+use Rattle.hex.specs.Line.{hasNewline}
 use Rattle.host.specs.Host.{fresh}
 use Rattle.replay_text.specs.Text.{
   linesMost,

@@ -13,12 +13,12 @@ use borrow.Author.Tests.{lt-ltb, le-ltb, ne-eqb}
 use lib.Dec.{ltb, eqb}
 use lib.ListN.{length, take, set, replicate, length-set, length-replicate}
 use lib.Seq.{length-take-le, take-suc-set}
-use Rattle.hex_line.specs.declared.Line.{Line}
-use Rattle.hex_line.specs.Line.{digit, decode}
-use Rattle.hex_line.specs.Taking.{State, state, start, withByte, withDigit, withValue, after, refusedLine, emptyLine}
-use Rattle.hex_line.proofs.Digits.{Valued, is-digit, no-digit, valued}
-use Rattle.hex_line.proofs.Taking.{on-high, on-low, on-full}
-use Rattle.hex_line.proofs.Decoding.{
+use Rattle.hex.specs.declared.line.Line.{Line}
+use Rattle.hex.specs.Line.{digit, decode}
+use Rattle.hex.specs.Taking.{State, state, start, withByte, withDigit, withValue, after, refusedLine, emptyLine}
+use Rattle.hex.proofs.line.Digits.{Valued, is-digit, no-digit, valued}
+use Rattle.hex.proofs.line.Taking.{on-high, on-low, on-full}
+use Rattle.hex.proofs.line.Decoding.{
   atStart,
   Spelled,
   line-spelled,

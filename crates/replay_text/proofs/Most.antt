@@ -9,7 +9,7 @@ use native.Mathlib.Decide.{decLt}
 use native.Mathlib.Omega.{arith}
 use lib.Dec.{leb}
 use lib.ListN.{length, drop, length-append}
-use Rattle.hex_line.specs.Line.{digit, hasNewline}
+use Rattle.hex.specs.Line.{digit, hasNewline}
 use Rattle.replay_text.specs.Text.{linesMost}
 use Rattle.replay_text.specs.Feeding.{
   Held,

@@ -47,11 +47,11 @@ use Rattle.host.specs.Host.{
   receiveOf,
 }
 use Rattle.host.proofs.Receiving.{received-refused, received-none, received-some}
-use Rattle.replay_line.specs.declared.Totals.{Totals}
-use Rattle.replay_line.specs.Report.{totalled}
+use Rattle.replay_text.specs.declared.line.Totals.{Totals}
+use Rattle.replay_text.specs.Report.{totalled}
 use Rattle.replay_text.specs.Text.{linesMost, answerTo, answersTo, sumsOf, noTotals, plus, totalsOf}
 use Rattle.replay_text.proofs.Whole.{totalling}
-use Rattle.hex_line.specs.Line.{decode}
+use Rattle.hex.specs.Line.{decode}
 
 -- ---- a frame's messages and their bytes are no more than the frame has bytes
 

@@ -10,11 +10,11 @@ use borrow.Author.Tests.{le-leb, lt-leb, ne-eqb, eqb-true}
 use lib.Dec.{eqb}
 use lib.ListN.{length, take}
 use lib.Seq.{take-nil}
-use Rattle.hex_line.specs.Line.{digit, decode, hasNewline}
+use Rattle.hex.specs.Line.{digit, decode, hasNewline}
 use Rattle.host.specs.declared.Answer.{Answer}
 use Rattle.host.specs.Host.{Received}
-use Rattle.replay_line.specs.declared.Totals.{Totals}
-use Rattle.replay_line.specs.Report.{totalled}
+use Rattle.replay_text.specs.declared.line.Totals.{Totals}
+use Rattle.replay_text.specs.Report.{totalled}
 use Rattle.replay_text.specs.declared.Reply.the-variants.{Answered, Nothing}
 use Rattle.replay_text.specs.Text.{linesMost, withFirst, linesOf, answerTo, answersTo}
 use Rattle.replay_text.specs.Feeding.{

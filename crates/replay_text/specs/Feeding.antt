@@ -6,12 +6,12 @@ use mathlib.Core.List.{List, [], _∷_, _++_}
 use mathlib.Core.Option.{Option, none, some}
 use lib.Dec.{leb, ltb}
 use lib.ListN.{length, drop}
-use Rattle.hex_line.specs.Line.{digit, upToNewline, hasNewline}
+use Rattle.hex.specs.Line.{digit, upToNewline, hasNewline}
 use Rattle.host.specs.declared.Pair.{Pair}
 use Rattle.host.specs.declared.Answer.{Answer}
 use Rattle.host.specs.Host.{Received, fresh, unchanged, refused, receiveOf}
-use Rattle.replay_line.specs.declared.Totals.{Totals}
-use Rattle.replay_line.specs.Report.{totalled}
+use Rattle.replay_text.specs.declared.line.Totals.{Totals}
+use Rattle.replay_text.specs.Report.{totalled}
 use Rattle.replay_text.specs.declared.Reply.{Reply}
 use Rattle.replay_text.specs.declared.Reply.the-variants.{Answered, Nothing, Refused}
 use Rattle.replay_text.specs.Text.{linesMost, memoryAtStart, noTotals}

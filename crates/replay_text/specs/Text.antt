@@ -6,15 +6,15 @@ use mathlib.Core.List.{List, [], _∷_, _++_}
 use mathlib.Core.Option.{Option, none, some}
 use lib.Dec.{eqb}
 use lib.ListN.{take, replicate}
-use Rattle.hex_line.specs.Line.{decode}
-use Rattle.text_answer.specs.AnswerLine.{lineText}
+use Rattle.hex.specs.Line.{decode}
+use Rattle.replay_text.specs.AnswerLine.{lineText}
 use Rattle.host.specs.declared.Pair.{Pair}
 use Rattle.host.specs.declared.Answer.{Answer}
 use Rattle.host.specs.declared.Answer.the-variants.{Accepted, Again, NoMessages, Refused}
 use Rattle.host.specs.Host.{Received, fresh, unchanged, refused, receiveOf}
 use Rattle.host.specs.declared.Sums.{Sums}
-use Rattle.replay_line.specs.declared.Totals.{Totals}
-use Rattle.replay_line.specs.Report.{letterOf, numbersOf}
+use Rattle.replay_text.specs.declared.line.Totals.{Totals}
+use Rattle.replay_text.specs.Report.{letterOf, numbersOf}
 
 -- ---- lines
 

@@ -1,6 +1,6 @@
 // The wire format: its types, and where the next header goes. Assumes nothing. It promises specs/Format.antt; what a
 // frame's bytes mean is specs/Reading.antt and specs/Writing.antt, that what is written reads back is
-// proofs/RoundTrip.antt, and the crates wire_read, wire_headers and wire_write have the code.
+// proofs/RoundTrip.antt, and the crates wire_read and wire_write have the code.
 use seq::FrameNo;
 use seq::TransNo;
 ghost use mathlib.Core.Path.{_≡_};

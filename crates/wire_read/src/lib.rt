@@ -1,5 +1,7 @@
 // Reading a lent frame: its header, and its messages one by one with their data as parts of the frame. Assumes nothing:
 // any bytes get an answer. It promises what specs/Finding.antt says, over the format of the crate wire.
+pub mod layout;
+
 use seq::FrameNo;
 use seq::TransNo;
 use wire::FrameHeader;

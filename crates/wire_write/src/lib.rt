@@ -1,5 +1,7 @@
 // Building a frame with messages inside a lent slot, one message a call. Assumes nothing: a message that has no room is
 // not written at all. It promises every byte of the slot, as wire/specs/Writing.antt says.
+pub mod headers;
+
 use seq::FrameNo;
 use wire::MessageHeader;
 ghost use mathlib.Core.Path.{_≡_};
@@ -19,7 +21,7 @@ fn put_message(slot: &mut [u8], at: usize, h: MessageHeader, payload: &[u8])
     ensures { λ _. ⌜ now (slot .exit)
         ≡ sets (now (slot .entry)) at (messageHead (carrying h (now (payload .entry))) 0 ++ now (payload .entry)) ⌝ }
 {
-    let head = wire_headers::message_head(h, payload);
+    let head = headers::message_head(h, payload);
     octets::write(slot, at, &head);
     octets::write(slot, at + wire::MESSAGE_HEADER, payload);
 }
@@ -56,7 +58,7 @@ pub fn write_first(
     if !has_room(slot, wire::FRAME_HEADER, payload) {
         return false;
     }
-    let head = wire_headers::frame_head(to, from, number, FrameNo(0), 0, 1);
+    let head = headers::frame_head(to, from, number, FrameNo(0), 0, 1);
     octets::write(slot, 0, &head);
     put_message(slot, wire::FRAME_HEADER, h, payload);
     true

@@ -11,7 +11,7 @@ use Rattle.card_acks.proofs.read_acknowledgements.Reads as reads
 use Rattle.card_acks.proofs.read_acknowledgements.Lts as lts
 use Rattle.card_acks.proofs.acknowledge.Reads as acknowledge-reads
 use Rattle.card_words.proofs.head_of.Reads as head-of-reads
-use Rattle.wire_layout.proofs.refusal_of.Reads as refusal-of-reads
+use Rattle.wire_read.proofs.layout.refusal_of.Reads as refusal-of-reads
 use Rattle.wire_read.proofs.frame_header.Reads as frame-header-reads
 
 returns : tie.Need-returns

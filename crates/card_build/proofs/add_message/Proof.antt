@@ -13,7 +13,7 @@ use Rattle.card_build.proofs.add_message.Statement.{statement}
 use Rattle.card_build.proofs.add_message.Tie as tie
 use Rattle.card_build.proofs.add_message.Reads as reads
 use Rattle.card_build.proofs.add_message.Lts as lts
-use Rattle.card_admit.proofs.add_refusal.Reads as add-refusal-reads
+use Rattle.card_build.proofs.admit.add_refusal.Reads as add-refusal-reads
 use Rattle.card_build.proofs.count_message.Reads as count-message-reads
 use Rattle.card_build.proofs.write_message.Reads as write-message-reads
 

@@ -6,7 +6,7 @@ use Rattle.host_answer.proofs.acknowledge_in_place.Statement.{statement
 use Rattle.host_answer.proofs.acknowledge_in_place.Tie as tie
 use Rattle.host_answer.proofs.acknowledge_in_place.Reads as reads
 use Rattle.host_answer.proofs.acknowledge_in_place.Lts as lts
-use Rattle.host_pair.proofs.acknowledge_from.Reads as acknowledge-from-reads
+use Rattle.host_words.proofs.pair.acknowledge_from.Reads as acknowledge-from-reads
 use Rattle.host_words.proofs.own.Reads as own-reads
 use Rattle.host_words.proofs.peer.Reads as peer-reads
 

@@ -20,7 +20,7 @@ use Rattle.host_plain.proofs.refuse.Reads as refuse-reads
 use Rattle.host_plain.proofs.run_from.Reads as run-from-reads
 use Rattle.host_plain.proofs.take_frame.Reads as take-frame-reads
 use Rattle.seq.proofs.FrameNo.distance.Reads as distance-reads
-use Rattle.wire_layout.proofs.refusal_of.Reads as refusal-of-reads
+use Rattle.wire_read.proofs.layout.refusal_of.Reads as refusal-of-reads
 use Rattle.wire_read.proofs.frame_header.Reads as frame-header-reads
 
 refusal-of-requires : tie.Need-refusal-of-requires

@@ -8,17 +8,17 @@ use Rattle.wire.proofs.Reading.{Framed}
 use Rattle.host.specs.declared.Pair.{Pair}
 use Rattle.host_words.specs.Words.{pairOf}
 use Rattle.host_words.proofs.Words.{next-lt}
-use Rattle.host_number.proofs.Window.{not-new, new-in}
+use Rattle.host_receive.proofs.number.Window.{not-new, new-in}
 use Rattle.host_receive.proofs.Awaiting.{stays, awaited, refused-heading, framed, none-there, answered-by-number}
 use borrow.Author.Needs.{needs}
 use Rattle.host_receive.proofs.receive_in_place.Statement.{statement}
 use Rattle.host_receive.proofs.receive_in_place.Tie as tie
 use Rattle.host_receive.proofs.receive_in_place.Reads as reads
 use Rattle.host_receive.proofs.receive_in_place.Lts as lts
-use Rattle.wire_layout.proofs.heading_refusal.Reads as heading-refusal-reads
-use Rattle.host_refuse.proofs.answer_by_number.Reads as answer-by-number-reads
-use Rattle.host_number.proofs.is_new.Reads as is-new-reads
-use Rattle.host_refuse.proofs.refusing.Reads as refusing-reads
+use Rattle.wire_read.proofs.layout.heading_refusal.Reads as heading-refusal-reads
+use Rattle.host_receive.proofs.refuse.answer_by_number.Reads as answer-by-number-reads
+use Rattle.host_receive.proofs.number.is_new.Reads as is-new-reads
+use Rattle.host_receive.proofs.refuse.refusing.Reads as refusing-reads
 use Rattle.host_receive.proofs.take_in.Reads as take-in-reads
 use Rattle.host_words.proofs.marks.Reads as marks-reads
 use Rattle.host_words.proofs.next.Reads as next-reads

@@ -10,10 +10,10 @@ use Rattle.host_receive.proofs.take_in.Statement.{statement}
 use Rattle.host_receive.proofs.take_in.Tie as tie
 use Rattle.host_receive.proofs.take_in.Reads as reads
 use Rattle.host_receive.proofs.take_in.Lts as lts
-use Rattle.host_apply.proofs.apply.Reads as apply-reads
-use Rattle.host_number.proofs.accept.Reads as accept-reads
-use Rattle.host_refuse.proofs.refuse.Reads as refuse-reads
-use Rattle.host_validate.proofs.validate.Reads as validate-reads
+use Rattle.host_receive.proofs.apply.apply.Reads as apply-reads
+use Rattle.host_receive.proofs.number.accept.Reads as accept-reads
+use Rattle.host_receive.proofs.refuse.refuse.Reads as refuse-reads
+use Rattle.host_receive.proofs.validate.validate.Reads as validate-reads
 use Rattle.host_words.proofs.own.Reads as own-reads
 use Rattle.host_words.proofs.peer.Reads as peer-reads
 

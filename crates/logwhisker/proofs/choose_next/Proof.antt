@@ -4,13 +4,13 @@ use mathlib.Core.Path.{_≡_, _∙_}
 use native.Mathlib.Omega.{arith}
 use lib.ListN.{length}
 use borrow.Author.Tests.{eq-eqb}
-use Rattle.card_choose.specs.Choices.{chosenIn}
+use Rattle.card_send.specs.Choices.{chosenIn}
 use borrow.Author.Needs.{needs}
 use Rattle.logwhisker.proofs.choose_next.Statement.{statement}
 use Rattle.logwhisker.proofs.choose_next.Tie as tie
 use Rattle.logwhisker.proofs.choose_next.Reads as reads
 use Rattle.logwhisker.proofs.choose_next.Lts as lts
-use Rattle.card_choose.proofs.choose_next.Reads as choose-next-reads
+use Rattle.card_send.proofs.choose.choose_next.Reads as choose-next-reads
 
 choose-next-requires : tie.Need-choose-next-requires
 choose-next-requires c κs = search needs

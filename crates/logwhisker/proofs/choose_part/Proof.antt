@@ -9,7 +9,7 @@ use Rattle.logwhisker.proofs.choose_part.Statement.{statement}
 use Rattle.logwhisker.proofs.choose_part.Tie as tie
 use Rattle.logwhisker.proofs.choose_part.Reads as reads
 use Rattle.logwhisker.proofs.choose_part.Lts as lts
-use Rattle.card_choose.proofs.choose_part.Reads as choose-part-reads
+use Rattle.card_send.proofs.choose.choose_part.Reads as choose-part-reads
 
 choose-part-requires : tie.Need-choose-part-requires
 choose-part-requires c κs = search needs

@@ -9,7 +9,7 @@ use Rattle.logwhisker.proofs.choose_refusal.Statement.{statement}
 use Rattle.logwhisker.proofs.choose_refusal.Tie as tie
 use Rattle.logwhisker.proofs.choose_refusal.Reads as reads
 use Rattle.logwhisker.proofs.choose_refusal.Lts as lts
-use Rattle.card_choose.proofs.choose_refusal.Reads as choose-refusal-reads
+use Rattle.card_send.proofs.choose.choose_refusal.Reads as choose-refusal-reads
 
 choose-refusal-requires : tie.Need-choose-refusal-requires
 choose-refusal-requires c κs = search needs

@@ -9,7 +9,7 @@ use Rattle.logwhisker.proofs.open_card.Statement.{statement}
 use Rattle.logwhisker.proofs.open_card.Tie as tie
 use Rattle.logwhisker.proofs.open_card.Reads as reads
 use Rattle.logwhisker.proofs.open_card.Lts as lts
-use Rattle.card_open.proofs.open_card.Reads as open-card-reads
+use Rattle.card_build.proofs.opening.open_card.Reads as open-card-reads
 
 open-card-requires : tie.Need-open-card-requires
 open-card-requires c κs = search needs

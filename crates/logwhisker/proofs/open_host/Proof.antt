@@ -8,7 +8,7 @@ use Rattle.logwhisker.proofs.open_host.Statement.{statement}
 use Rattle.logwhisker.proofs.open_host.Tie as tie
 use Rattle.logwhisker.proofs.open_host.Reads as reads
 use Rattle.logwhisker.proofs.open_host.Lts as lts
-use Rattle.host_open.proofs.open_in_place.Reads as open-in-place-reads
+use Rattle.host_words.proofs.opening.open_in_place.Reads as open-in-place-reads
 
 open-in-place-requires : tie.Need-open-in-place-requires
 open-in-place-requires c κs = search needs

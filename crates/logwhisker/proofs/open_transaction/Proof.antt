@@ -4,14 +4,14 @@ use mathlib.Core.Path.{_≡_, _∙_, ap}
 use native.Mathlib.Omega.{arith}
 use lib.ListN.{length}
 use borrow.Author.Tests.{eq-eqb}
-use Rattle.card_number.specs.declared.OpenedTransaction.{OpenedTransaction}
-use Rattle.card_number.specs.Numbering.{openedIn}
+use Rattle.card_build.specs.declared.number.OpenedTransaction.{OpenedTransaction}
+use Rattle.card_build.specs.Numbering.{openedIn}
 use borrow.Author.Needs.{needs}
 use Rattle.logwhisker.proofs.open_transaction.Statement.{statement}
 use Rattle.logwhisker.proofs.open_transaction.Tie as tie
 use Rattle.logwhisker.proofs.open_transaction.Reads as reads
 use Rattle.logwhisker.proofs.open_transaction.Lts as lts
-use Rattle.card_number.proofs.open_transaction.Reads as open-transaction-reads
+use Rattle.card_build.proofs.number.open_transaction.Reads as open-transaction-reads
 
 open-transaction-requires : tie.Need-open-transaction-requires
 open-transaction-requires c κs = search needs

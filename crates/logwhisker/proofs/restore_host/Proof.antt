@@ -8,7 +8,7 @@ use Rattle.logwhisker.proofs.restore_host.Statement.{statement}
 use Rattle.logwhisker.proofs.restore_host.Tie as tie
 use Rattle.logwhisker.proofs.restore_host.Reads as reads
 use Rattle.logwhisker.proofs.restore_host.Lts as lts
-use Rattle.host_restore.proofs.restore.Reads as restore-reads
+use Rattle.host_store.proofs.restore.restore.Reads as restore-reads
 
 restore-requires : tie.Need-restore-requires
 restore-requires c κs = search needs

@@ -4,14 +4,14 @@ use mathlib.Core.Path.{_≡_, _∙_, ap}
 use native.Mathlib.Omega.{arith}
 use lib.ListN.{length}
 use borrow.Author.Tests.{eq-eqb}
-use Rattle.card_number.specs.declared.SealedFrame.{SealedFrame}
-use Rattle.card_number.specs.Numbering.{sealedIn}
+use Rattle.card_build.specs.declared.number.SealedFrame.{SealedFrame}
+use Rattle.card_build.specs.Numbering.{sealedIn}
 use borrow.Author.Needs.{needs}
 use Rattle.logwhisker.proofs.seal_frame.Statement.{statement}
 use Rattle.logwhisker.proofs.seal_frame.Tie as tie
 use Rattle.logwhisker.proofs.seal_frame.Reads as reads
 use Rattle.logwhisker.proofs.seal_frame.Lts as lts
-use Rattle.card_number.proofs.seal_frame.Reads as seal-frame-reads
+use Rattle.card_build.proofs.number.seal_frame.Reads as seal-frame-reads
 
 seal-frame-requires : tie.Need-seal-frame-requires
 seal-frame-requires c κs = search needs

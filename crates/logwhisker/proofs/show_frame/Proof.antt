@@ -4,13 +4,13 @@ use mathlib.Core.Path.{_≡_, _∙_}
 use native.Mathlib.Omega.{arith}
 use lib.ListN.{length}
 use borrow.Author.Tests.{eq-eqb}
-use Rattle.card_show.specs.Parts.{shownIn}
+use Rattle.card_send.specs.Parts.{shownIn}
 use borrow.Author.Needs.{needs}
 use Rattle.logwhisker.proofs.show_frame.Statement.{statement}
 use Rattle.logwhisker.proofs.show_frame.Tie as tie
 use Rattle.logwhisker.proofs.show_frame.Reads as reads
 use Rattle.logwhisker.proofs.show_frame.Lts as lts
-use Rattle.card_show.proofs.show_frame.Reads as show-frame-reads
+use Rattle.card_send.proofs.show.show_frame.Reads as show-frame-reads
 
 show-frame-requires : tie.Need-show-frame-requires
 show-frame-requires c κs = search needs

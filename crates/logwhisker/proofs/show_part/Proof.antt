@@ -9,7 +9,7 @@ use Rattle.logwhisker.proofs.show_part.Statement.{statement}
 use Rattle.logwhisker.proofs.show_part.Tie as tie
 use Rattle.logwhisker.proofs.show_part.Reads as reads
 use Rattle.logwhisker.proofs.show_part.Lts as lts
-use Rattle.card_show.proofs.show_part.Reads as show-part-reads
+use Rattle.card_send.proofs.show.show_part.Reads as show-part-reads
 
 show-part-requires : tie.Need-show-part-requires
 show-part-requires c κs = search needs

@@ -9,7 +9,7 @@ use Rattle.logwhisker.proofs.show_refusal.Statement.{statement}
 use Rattle.logwhisker.proofs.show_refusal.Tie as tie
 use Rattle.logwhisker.proofs.show_refusal.Reads as reads
 use Rattle.logwhisker.proofs.show_refusal.Lts as lts
-use Rattle.card_show.proofs.show_refusal.Reads as show-refusal-reads
+use Rattle.card_send.proofs.show.show_refusal.Reads as show-refusal-reads
 
 show-refusal-requires : tie.Need-show-refusal-requires
 show-refusal-requires c κs = search needs

@@ -6,7 +6,7 @@ use borrow.Author.Tests.{eq-eqb, ne-eqb}
 use lib.ListN.{length, take}
 use Rattle.host.specs.Host.{Received, unchanged, refused, receiveOf}
 use Rattle.host_words.specs.Words.{pairOf}
-use Rattle.replay_line.specs.Report.{answeredLine}
+use Rattle.replay_text.specs.Report.{answeredLine}
 use borrow.Author.Needs.{needs}
 use Rattle.replay_feed.proofs.answer_line.Statement.{statement}
 use Rattle.replay_feed.proofs.answer_line.Tie as tie
@@ -14,7 +14,7 @@ use Rattle.replay_feed.proofs.answer_line.Reads as reads
 use Rattle.replay_feed.proofs.answer_line.Lts as lts
 use Rattle.host_receive.proofs.receive_in_place.Reads as receive-in-place-reads
 use Rattle.octets.proofs.front.Reads as front-reads
-use Rattle.replay_line.proofs.line_refusal.Reads as line-refusal-reads
+use Rattle.replay_text.proofs.line.line_refusal.Reads as line-refusal-reads
 
 line-refusal-requires : tie.Need-line-refusal-requires
 line-refusal-requires c κs = search needs

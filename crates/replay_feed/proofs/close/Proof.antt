@@ -6,16 +6,16 @@ use Prim.Native.Nat.{ℕ}
 use native.Mathlib.Omega.{arith}
 use lib.ListN.{length}
 use Rattle.host_words.specs.Words.{pairOf}
-use Rattle.replay_place.proofs.Words.{answered-left, closing-left}
-use Rattle.replay_place.proofs.Steps.{closed-bare, closed-line}
+use Rattle.replay_text.proofs.place.Words.{answered-left, closing-left}
+use Rattle.replay_text.proofs.place.Steps.{closed-bare, closed-line}
 use borrow.Author.Needs.{needs}
 use Rattle.replay_feed.proofs.close.Statement.{statement}
 use Rattle.replay_feed.proofs.close.Tie as tie
 use Rattle.replay_feed.proofs.close.Reads as reads
 use Rattle.replay_feed.proofs.close.Lts as lts
 use Rattle.replay_feed.proofs.end_line.Reads as end-line-reads
-use Rattle.replay_place.proofs.close.Reads as close-reads
-use Rattle.replay_place.proofs.has_last.Reads as has-last-reads
+use Rattle.replay_text.proofs.place.close.Reads as close-reads
+use Rattle.replay_text.proofs.place.has_last.Reads as has-last-reads
 
 has-last-requires : tie.Need-has-last-requires
 has-last-requires c κs = search needs

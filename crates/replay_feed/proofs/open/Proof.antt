@@ -4,13 +4,13 @@ use mathlib.Core.Path.{_≡_, refl}
 use native.Mathlib.Omega.{arith}
 use lib.ListN.{length}
 use Rattle.host.specs.Host.{openedOf}
-use Rattle.replay_place.proofs.Steps.{opens}
+use Rattle.replay_text.proofs.place.Steps.{opens}
 use borrow.Author.Needs.{needs}
 use Rattle.replay_feed.proofs.open.Statement.{statement}
 use Rattle.replay_feed.proofs.open.Tie as tie
 use Rattle.replay_feed.proofs.open.Reads as reads
 use Rattle.replay_feed.proofs.open.Lts as lts
-use Rattle.host_open.proofs.open_in_place.Reads as open-in-place-reads
+use Rattle.host_words.proofs.opening.open_in_place.Reads as open-in-place-reads
 
 open-in-place-requires : tie.Need-open-in-place-requires
 open-in-place-requires c κs = search needs

@@ -5,7 +5,7 @@ use Rattle.replay_output.proofs.put_reply.Statement.{statement}
 use Rattle.replay_output.proofs.put_reply.Tie as tie
 use Rattle.replay_output.proofs.put_reply.Reads as reads
 use Rattle.replay_output.proofs.put_reply.Lts as lts
-use Rattle.replay_line.proofs.put_answer.Reads as put-answer-reads
+use Rattle.replay_text.proofs.line.put_answer.Reads as put-answer-reads
 
 enum-known-reply : tie.Need-enum-known-reply
 enum-known-reply c = search needs

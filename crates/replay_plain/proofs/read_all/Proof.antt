@@ -11,7 +11,7 @@ use Rattle.replay_plain.proofs.read_all.Reads as reads
 use Rattle.replay_plain.proofs.read_all.Lts as lts
 use Rattle.replay_output.proofs.read_some.Reads as read-some-reads
 use Rattle.replay_output.proofs.stop.Reads as stop-reads
-use Rattle.replay_place.proofs.is_full.Reads as is-full-reads
+use Rattle.replay_text.proofs.place.is_full.Reads as is-full-reads
 use Rattle.replay_plain.proofs.take_piece.Reads as take-piece-reads
 
 abbrev Inv-loop : tie.InvT-loop

@@ -10,7 +10,7 @@ use Rattle.replay_plain_feed.proofs.answer_line.Reads as reads
 use Rattle.replay_plain_feed.proofs.answer_line.Lts as lts
 use Rattle.host_plain.proofs.receive.Reads as receive-reads
 use Rattle.octets.proofs.front.Reads as front-reads
-use Rattle.replay_line.proofs.line_refusal.Reads as line-refusal-reads
+use Rattle.replay_text.proofs.line.line_refusal.Reads as line-refusal-reads
 
 line-refusal-requires : tie.Need-line-refusal-requires
 line-refusal-requires c κs = search needs

@@ -3,7 +3,7 @@
 use mathlib.Core.Path.{refl, ap, _∙_}
 use Rattle.host_plain.specs.declared.PlainOpened.{PlainOpened}
 use Rattle.host_equal.specs.Described.{pairOfPlain}
-use Rattle.replay_place.proofs.Steps.{opens}
+use Rattle.replay_text.proofs.place.Steps.{opens}
 use Rattle.replay_plain_feed.proofs.Answering.{opened-fresh}
 use borrow.Author.Needs.{needs}
 use Rattle.replay_plain_feed.proofs.open.Statement.{statement}

@@ -8,7 +8,7 @@ use Rattle.wire_write.proofs.put_message.Tie as tie
 use Rattle.wire_write.proofs.put_message.Reads as reads
 use Rattle.wire_write.proofs.put_message.Lts as lts
 use Rattle.octets.proofs.write.Reads as write-reads
-use Rattle.wire_headers.proofs.message_head.Reads as message-head-reads
+use Rattle.wire_write.proofs.headers.message_head.Reads as message-head-reads
 
 message-head-requires : tie.Need-message-head-requires
 message-head-requires c κs = search needs

@@ -16,7 +16,7 @@ use Rattle.wire_write.proofs.write_first.Tie as tie
 use Rattle.wire_write.proofs.write_first.Reads as reads
 use Rattle.wire_write.proofs.write_first.Lts as lts
 use Rattle.octets.proofs.write.Reads as write-reads
-use Rattle.wire_headers.proofs.frame_head.Reads as frame-head-reads
+use Rattle.wire_write.proofs.headers.frame_head.Reads as frame-head-reads
 use Rattle.wire_write.proofs.has_room.Reads as has-room-reads
 use Rattle.wire_write.proofs.put_message.Reads as put-message-reads
 

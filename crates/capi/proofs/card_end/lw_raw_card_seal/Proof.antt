@@ -1,0 +1,35 @@
+-- `capi::card_end::lw_raw_card_seal`: the number where the step is not refused.
+-- Assumes nothing.
+use mathlib.Core.Path.{refl, ap, _∙_, sym}
+use borrow.Author.Tests.{eq-eqb, ne-eqb}
+use Rattle.seq.specs.declared.FrameNo.{FrameNo}
+use borrow.Author.Needs.{needs}
+use Rattle.capi.proofs.card_end.lw_raw_card_seal.Statement.{statement}
+use Rattle.capi.proofs.card_end.lw_raw_card_seal.Tie as tie
+use Rattle.capi.proofs.card_end.lw_raw_card_seal.Reads as reads
+use Rattle.capi.proofs.card_end.lw_raw_card_seal.Lts as lts
+use Rattle.logwhisker.proofs.seal_frame.Reads as seal-frame-reads
+
+seal-frame-requires : tie.Need-seal-frame-requires
+seal-frame-requires c κs = search needs
+
+cast-result : tie.Need-cast-result
+cast-result c = search needs
+
+returns : tie.Need-returns
+returns c =
+    let k = c .before .before .before .seal-frame .ensures in
+    (k .0, (k .1 .1 .0, (rw (ne-eqb _ 0 (λ q. c .before .if1 .taken (k .0 ∙ q))), k .1 .1 .1)))
+
+returns-2 : tie.Need-returns-2
+returns-2 c =
+    let k = c .before .before .seal-frame .ensures in (
+      sym (c .if1 .left) ∙ k .0,
+      (
+        k .1 .1 .0,
+        (rw (eq-eqb _ 0 (sym (k .0) ∙ c .if1 .left)) (ap (λ (n : FrameNo). n .0) (k .1 .0)), λ ne. absurd (ne refl)),
+      ),
+    )
+
+pub lw-raw-card-seal-spec : {M : Type 1} → statement M
+lw-raw-card-seal-spec = tie.close (tie.spec seal-frame-requires cast-result returns returns-2)

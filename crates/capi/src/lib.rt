@@ -1,0 +1,6 @@
+// The functions that are exported to C: a frame's layout, both ends, and the replay from fragments. They take numbers,
+// byte slices and lent words, assume nothing of them, and promise what the face promises.
+pub mod card_end;
+pub mod frame;
+pub mod host_end;
+pub mod replaying;

@@ -1,0 +1,5 @@
+pub mod Fields
+pub mod Line
+pub mod Taking
+pub mod Walking
+pub mod Pairs
