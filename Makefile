@@ -6,11 +6,10 @@ SEED ?= 2
 # The header says which version this is.
 VERSION := $(shell sed -n 's/^.define LW_VERSION "\(.*\)"/\1/p' include/logwhisker.h)
 
-# What the library for C is made from: the crates of exported functions, and all that crates.txt lists behind them.
+# The library for C: the crates of exported functions, made anew after a change of any source.
 EXPORTS := $(shell sed -n 's/^\(capi[a-z_]*\):.*/\1/p' crates.txt)
 LIBRARY := target/staticlib/liblogwhisker.a
-LIBRARY_CRATES := $(sort $(EXPORTS) $(shell sed -n 's/^capi[a-z_]*://p' crates.txt))
-LIBRARY_SOURCES := $(wildcard $(foreach crate,$(LIBRARY_CRATES),crates/$(crate)/src/*.rt crates/$(crate)/specs/*.antt))
+LIBRARY_SOURCES := $(wildcard crates/*/src/*.rt crates/*/specs/*.antt)
 
 .PHONY: test check library replay calls demo bench soak install pictures clean
 
@@ -36,10 +35,9 @@ check:
 REPLAY := $(if $(filter 1,$(PLAIN)),replay_plain,replay)
 
 replay:
-	@mkdir -p target
 	@[ -x target/bin/$(REPLAY) ] || \
 		echo 'make replay: proves the replay and all below it first, which takes some minutes' >&2
-	@rt check $(REPLAY) > target/replay.log 2>&1 || { cat target/replay.log; exit 1; }
+	@tools/prove $(REPLAY)
 	@target/bin/$(REPLAY) < $(FRAMES)
 
 # Proves and builds the library for C: target/staticlib/liblogwhisker.a.

@@ -3,10 +3,12 @@
 journey, the crates.
 
 `make.py` writes them; `make.py --check` writes nothing and exits with 1 where a stored picture is not the one made here.
-The crates are read from crates.txt; a name that begins with no floor, and a crate that sees what is not below it, is an error.
+Crates and floors are read from crates.txt; a name that begins with no word of its floor, and a crate that sees what is not
+below it, is an error.
 """
 import math
 import pathlib
+import re
 import sys
 
 HERE = pathlib.Path(__file__).resolve().parent
@@ -643,116 +645,116 @@ def draw_journey():
 
 # ---- the house
 
-# Floors from below: what is written beside them, their colour, and the floors that one may see. A crate belongs to the floor whose
-# word its name is or begins with; GROUND and others are named.
+KIT = "kit"
+# Of each floor its colour and where it is drawn: left, right, row from above. A row is as high as its fullest floor.
 FLOORS = {
-    "kit": ("the Rattle kit's libraries", "#ffffff", ()),
-    "ground": ("ground: no knowledge of frames", GREY, ("kit",)),
-    "wire": ("wire: the frame format, defined once; read, written", BLUE, ("kit", "ground")),
-    "host": ("host: the receiver, an engine in place over lent words", AMBER, ("kit", "ground", "wire")),
-    "card": ("card: the sender, an engine in place over lent words", GREEN, ("kit", "ground", "wire")),
-    "theorem": ("theorem: exactly once, over lists of calls; no code", VIOLET, ("ground", "wire", "host", "card")),
-    "text": ("text: hexadecimal and decimal lines", ROSE, ("kit", "ground")),
-    "replay": ("replay: a text, whole and in fragments", ROSE, ("kit", "ground", "wire", "host", "text")),
-    "face": ("face: what a Rattle caller uses", TEAL, ("ground", "wire", "host", "card", "theorem", "text", "replay")),
-    "program": ("program: input and output", ROSE, ("kit", "ground", "wire", "host", "text", "replay")),
-    "capi": ("C: what the header is made of", TEAL, ("kit", "ground", "wire", "host", "card", "theorem", "text", "replay", "face")),
+    "program": (ROSE, 30, 480, 0), "C": (TEAL, 520, 970, 0), "face": (TEAL, 30, 970, 1), "above": (ROSE, 30, 480, 2),
+    "theorem": (VIOLET, 520, 970, 2), "host": (AMBER, 30, 480, 3), "card": (GREEN, 520, 970, 3), "wire": (BLUE, 30, 970, 4),
+    "ground": (GREY, 30, 700, 5), KIT: ("#ffffff", 740, 970, 5),
 }
-NAMED = {
-    "seq": "ground", "bitmap": "ground", "octets": "ground", "refusal": "ground", "hex": "ground", "delivery": "theorem", "edges": "theorem",
-    "logwhisker": "face", "bytes": "kit", "io": "kit", "libc": "kit", "os": "kit",
-}
-PROGRAMS = {"replay", "replay_plain"}
-
-# Where a floor is drawn: left, right, row from above. A row is as high as its fullest floor.
-BANDS = {
-    "program": (30, 480, 0), "capi": (520, 970, 0), "replay": (30, 480, 1), "face": (520, 970, 1), "text": (30, 425, 2),
-    "theorem": (520, 970, 2), "host": (30, 480, 3), "card": (520, 970, 3), "wire": (30, 970, 4), "ground": (30, 660, 5),
-    "kit": (700, 970, 5),
-}
-# The handful of arrows, each from a floor to one that it stands on, and the x at which it is drawn; beside each other,
-# it goes from edge to edge.
-STANDS = [("program", "replay", 255), ("capi", "face", 745), ("face", "replay", None), ("face", "theorem", 745),
-          ("replay", "text", 225), ("replay", "host", 445), ("theorem", "card", 745), ("host", "wire", 255),
-          ("card", "wire", 745), ("wire", "ground", 345), ("ground", "kit", None)]
+# The two ends do not see each other, though one stands before the other in crates.txt.
+APART = {"host", "card"}
+# The handful of arrows, each from a floor to one that it stands on, and the x at which it is drawn; floors beside each
+# other are joined from edge to edge.
+STANDS = [("program", "face", None), ("C", "face", 745), ("face", "above", 255), ("face", "theorem", 745), ("above", "host", 255),
+          ("theorem", "card", 745), ("host", "wire", 255), ("card", "wire", 745), ("wire", "ground", 345), ("ground", KIT, None)]
+HEADING = re.compile(r"## ((\w+)[\w ]*?)(?: \[([\w ]+)\])?: (.+)")
 
 
-def floor_of(name):
-    if name in PROGRAMS:
-        return "program"
-    for word in (name, name.split("_")[0]):
-        if word in NAMED:
-            return NAMED[word]
-        if word in FLOORS:
-            return word
-    raise SystemExit(f"make.py: the name of crate '{name}' begins with no floor of FLOORS")
+class Crate:
+    """A crate: its floor, the label of its row there, and the crates that it sees."""
+
+    def __init__(self, floor, row, sees):
+        self.floor, self.row, self.sees = floor, row, sees
 
 
 def read_crates():
-    """What crates.txt says each crate may see, in its order. A crate sees its own floor and those below it, and nothing else."""
-    sees = {}
+    """The crates and the titles of the floors, in the order of crates.txt. A crate's name begins with a word of its floor, and
+    it sees its own floor and those before it; all that crates.txt does not list is the kit's."""
+    found, titles, words, row = {}, {}, [], ""
     for line in CRATES.read_text(encoding="utf-8").splitlines():
-        line = line.split("#")[0].strip()
-        if line:
+        if heading := HEADING.fullmatch(line):
+            title, floor, own, says = heading.groups()
+            words, titles[floor], row = (own or floor).split(), f"{title}: {says}", ""
+        elif line.startswith("# ") and titles:
+            row = line[2:]
+        elif ":" in line and not line.startswith("#"):
             name, _, seen = line.partition(":")
-            sees[name.strip()] = seen.split()
-    for name, seen in sees.items():
-        for b in seen:
-            floor, below = floor_of(name), floor_of(b)
-            if below != floor and below not in FLOORS[floor][2]:
-                raise SystemExit(f"make.py: crate '{name}' of floor {floor} may not see '{b}' of floor {below}")
-    return sees
+            if name.split("_")[0] not in words:
+                raise SystemExit(f"make.py: the name of crate '{name}' begins with no word of its floor, {floor}")
+            found[name] = Crate(floor, row, seen.split())
+    for name, crate in found.items():
+        for b in crate.sees:
+            below = found[b].floor if b in found else KIT
+            order = [KIT, *titles]
+            if order.index(below) > order.index(crate.floor) or {below, crate.floor} == APART:
+                raise SystemExit(f"make.py: crate '{name}' of floor {crate.floor} may not see '{b}' of floor {below}")
+    return found, titles
 
 
-def lines_of(names, left, right):
-    """The crates of a floor in lines, as many to a line as have room; each with its left edge and its width."""
-    lines, x = [[]], left + 14
-    for name in names:
-        wide = 18 + 7.9 * len(name)
-        if lines[-1] and x + wide > right - 8:
-            lines.append([])
-            x = left + 14
-        lines[-1].append((name, x, wide))
-        x += wide + 10
+def lines_of(rows, left, right):
+    """The crates of a floor in lines: each row begins one, and goes on in the next where it has no more room. A line is the
+    row's label, and each crate's name with its left edge and its width."""
+    lines = []
+    indent = 14 + 7 * max(len(label) for label in rows) if any(rows) else 14
+    for label, names in rows.items():
+        lines.append((label, []))
+        x = left + indent
+        for name in names:
+            wide = 18 + 7.9 * len(name)
+            if lines[-1][1] and x + wide > right - 8:
+                lines.append(("", []))
+                x = left + indent
+            lines[-1][1].append((name, x, wide))
+            x += wide + 10
     return lines
 
 
-def draw_crates(sees):
-    names = list(sees) + sorted({b for seen in sees.values() for b in seen if b not in sees})
-    lines = {f: lines_of([n for n in names if floor_of(n) == f], left, right) for f, (left, right, _) in BANDS.items()}
-    rows = range(1 + max(row for _, _, row in BANDS.values()))
-    high = [40 + 36 * max(len(lines[f]) for f in BANDS if BANDS[f][2] == row) for row in rows]
-    top = [56 + sum(high[:row]) + 34 * row for row in rows]
+def draw_crates(found, titles):
+    kits = sorted({b for crate in found.values() for b in crate.sees if b not in found})
+    rows = {floor: {} for floor in FLOORS}
+    for name, crate in found.items():
+        rows[crate.floor].setdefault(crate.row, []).append(name)
+    rows[KIT], titles = {"": kits}, {**titles, KIT: "the Rattle kit's libraries"}
+    lines = {floor: lines_of(rows[floor], left, right) for floor, (_, left, right, _) in FLOORS.items()}
+    levels = range(1 + max(level for _, _, _, level in FLOORS.values()))
+    high = [40 + 36 * max(len(lines[f]) for f in FLOORS if FLOORS[f][3] == level) for level in levels]
+    top = [56 + sum(high[:level]) + 34 * level for level in levels]
     p = Picture("crates.svg", 1000, top[-1] + high[-1] + 40, "The house: floors, their crates, and which floor stands on which")
     p.text(30, 28, "A floor stands on those that its arrows lead to, and on what is below them.", 12.5, "start", SOFT)
-    for floor, (left, right, row) in BANDS.items():
-        title, fill, _ = FLOORS[floor]
-        p.rect(left, top[row], right - left, high[row], fill, RULE, 10, "4 3" if floor == "kit" else "", 0.8)
-        p.text(left + 14, top[row] + 20, title, 11.5, "start", SOFT)
-        for i, line in enumerate(lines[floor]):
-            for name, x, wide in line:
-                p.rect(x, top[row] + 32 + 36 * i, wide, 28, "#ffffff", round=5)
-                p.text(x + wide / 2, top[row] + 51 + 36 * i, name, 13, mono=True)
+    for floor, (fill, left, right, level) in FLOORS.items():
+        p.rect(left, top[level], right - left, high[level], fill, RULE, 10, "4 3" if floor == KIT else "", 0.8)
+        p.text(left + 14, top[level] + 20, titles[floor], 11.5, "start", SOFT)
+        for i, (label, names) in enumerate(lines[floor]):
+            p.text(left + 14, top[level] + 51 + 36 * i, label, 11.5, "start", SOFT)
+            for name, x, wide in names:
+                p.rect(x, top[level] + 32 + 36 * i, wide, 28, "#ffffff", round=5)
+                p.text(x + wide / 2, top[level] + 51 + 36 * i, name, 13, mono=True)
     for above, below, x in STANDS:
-        (left, right, row), (left2, right2, row2) = BANDS[above], BANDS[below]
-        y = top[row] + high[row] / 2
-        if x is not None:
-            p.line(x, top[row] + high[row], x, top[row2], arrow=True)
-        elif left < left2:
-            p.line(right, y, left2, y, arrow=True)
-        else:
-            p.line(left, y, right2, y, arrow=True)
+        draw_stand(p, FLOORS[above], FLOORS[below], x, top, high)
     # the theorem stands on the host too, which lies to its left
-    p.path(f"M520 {num(top[2] + high[2] / 2)}H465V{num(top[3])}", arrow=True)
+    p.path(f"M520 {num(top[2] + high[2] / 2)}H500V{num(top[3] + high[3] / 2)}H481", arrow=True)
     return p
+
+
+def draw_stand(p, above, below, x, top, high):
+    """An arrow from a floor to one that it stands on."""
+    (_, left, right, level), (_, left2, right2, level2) = above, below
+    y = top[level] + high[level] / 2
+    if level != level2:
+        x = (left + right) / 2 if x is None else x
+        p.line(x, top[level] + high[level], x, top[level2], arrow=True)
+    elif left < left2:
+        p.line(right, y, left2, y, arrow=True)
+    else:
+        p.line(left, y, right2, y, arrow=True)
 
 
 # ---- writing and checking
 
 
 def pictures():
-    sees = read_crates()
-    return [draw_frame(), draw_windows(), draw_lives(), draw_journey(), draw_crates(sees)]
+    return [draw_frame(), draw_windows(), draw_lives(), draw_journey(), draw_crates(*read_crates())]
 
 
 def check(made):
