@@ -21,8 +21,8 @@ MEANINGS = ("pairOf", "cardOf")
 MEANINGS_TOGETHER = ("replayingOf",)
 
 HEAD = re.compile(r'(?:\b(pub)\s+)?(?:\bextern\s+"C"\s+)?\bfn\s+(\w+)\s*(?:<[^>]*>)?\s*\(')
-# What may be a public function, in whatever form.
-ANY_HEAD = re.compile(r"\bpub\b[^;{}()]*(?:\([^)]*\)[^;{}()]*)?\bfn\b")
+# What may be a public function, in whatever form. `pub(crate)` is none: the kit hides such a function from other crates.
+ANY_HEAD = re.compile(r"\bpub\b(?!\(crate\))[^;{}()]*(?:\([^)]*\)[^;{}()]*)?\bfn\b")
 CLAUSE = re.compile(r"\s*(requires|ensures|decreases|measure)\b[^{]*\{")
 # A parameter that is lent for writing, and its name.
 LENT = re.compile(r"(?:(?:mut\s+)?(\w+)\s*:\s*)?&\s*(?:'\w+\s+)?mut\b")

@@ -24,7 +24,7 @@ fn covered(base: FrameNo, start: FrameNo, count: u8) -> u64
 }
 
 // Marks of the frames that are acknowledged once the count numbers from start on are. Only sealed ones are.
-pub fn acknowledged_marks(words: &[u64], start: FrameNo, count: u8) -> u64
+pub(crate) fn acknowledged_marks(words: &[u64], start: FrameNo, count: u8) -> u64
     ensures { λ r. ⌜ r ≡ marksOf 64 (acknowledgedBy (cardOf (now (words .entry)) .window) (start .0) count) ⌝ }
 {
     let h = card_words::head_of(words);

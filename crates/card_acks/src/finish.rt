@@ -84,7 +84,7 @@ fn marked_now(words: &[u64], from: FrameNo, base: FrameNo) -> u32
 
 // Marks of the transactions finished once the frames from `from` up to base are released. Most acknowledgements that
 // come out of order release none, and then no transaction has to be looked at.
-pub fn finished_marks(words: &[u64], from: FrameNo, base: FrameNo) -> u32
+pub(crate) fn finished_marks(words: &[u64], from: FrameNo, base: FrameNo) -> u32
     ensures { λ r. ⌜ r ≡ marksOf 32 (finishedBy (cardOf (now (words .entry)) .sendings) (from .0) (base .0)) ⌝ }
 {
     if base.distance(from) == 0 {

@@ -37,7 +37,7 @@ fn is_data_for_bare(count: u16, payload: &[u8]) -> bool
 }
 
 // Where the header of the next message goes, past the used bytes of the frame being built.
-pub fn header_offset(used: u16) -> usize
+pub(crate) fn header_offset(used: u16) -> usize
     ensures { λ r. ⌜ r ≡ nextHeader used ⌝ }
 {
     wire::next_header(used as usize)
@@ -56,7 +56,7 @@ fn is_past_limit(limit: u16, used: u16, payload: &[u8]) -> bool
 }
 
 // The refusal of adding a message of transaction t with this data, 0 for none. The slots are lent for their length.
-pub fn add_refusal(words: &[u64], slots: &[u8], t: TransNo, payload: &[u8]) -> u8
+pub(crate) fn add_refusal(words: &[u64], slots: &[u8], t: TransNo, payload: &[u8]) -> u8
     ensures { λ r. ⌜ r ≡ addRefusal (cardOf (now (words .entry))) (now (slots .entry)) (t .0) (now (payload .entry)) ⌝ }
 {
     let h = card_words::head_of(words);

@@ -38,7 +38,7 @@ fn is_held(words: &[u64], n: FrameNo) -> bool
 }
 
 // Where the sealed frame of a number lies in the slots.
-pub fn frame_part(words: &[u64], slots: &[u8], n: FrameNo) -> Part
+pub(crate) fn frame_part(words: &[u64], slots: &[u8], n: FrameNo) -> Part
     ensures { λ r. ⌜ r ≡ framePart (cardOf (now (words .entry))) (now (slots .entry)) (n .0) ⌝ }
 {
     let h = card_words::head_of(words);
@@ -51,7 +51,7 @@ pub fn frame_part(words: &[u64], slots: &[u8], n: FrameNo) -> Part
 }
 
 // The bytes of the sealed frame of a number.
-pub fn sealed_frame<'a>(words: &[u64], slots: &'a [u8], n: FrameNo) -> &'a [u8]
+pub(crate) fn sealed_frame<'a>(words: &[u64], slots: &'a [u8], n: FrameNo) -> &'a [u8]
     ensures { λ r. ⌜ now r ≡ frameIn (cardOf (now (words .entry))) (now (slots .entry)) (n .0) ⌝ }
 {
     let p = frame_part(words, slots, n);

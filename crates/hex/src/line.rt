@@ -64,7 +64,7 @@ impl Line {
 }
 
 // What a piece gave, made from the numbers that a loop works on.
-pub fn taken_of(len: usize, half: u8, odd: bool, bad: bool, at: usize, ended: bool) -> Taken
+pub(crate) fn taken_of(len: usize, half: u8, odd: bool, bad: bool, at: usize, ended: bool) -> Taken
     ensures { λ r. ⌜ r ≡ takenOf len half odd bad at ended ⌝ }
 {
     let line = Line {
@@ -83,7 +83,7 @@ pub fn taken_of(len: usize, half: u8, odd: bool, bad: bool, at: usize, ended: bo
 // The value of each character as a digit, and 16 where it is none, sixteen characters to a row: 0 to 9 are in the
 // fourth row, A to F in the fifth, a to f in the seventh. A loop calls it before its first turn, since a call copies
 // the table.
-pub fn digit_values() -> [u8; 256]
+pub(crate) fn digit_values() -> [u8; 256]
     ensures { λ r. ⌜ r ≡ digitValues ⌝ }
 {
     *b"\
@@ -107,7 +107,7 @@ pub fn digit_values() -> [u8; 256]
 }
 
 // What a table has for a character, which is below 256.
-pub fn digit_value(values: &[u8; 256], c: u8) -> u8
+pub(crate) fn digit_value(values: &[u8; 256], c: u8) -> u8
     ensures { λ r. ⌜ (r ≡ getD (now (values .entry)) c 0) × (c < 256) ⌝ }
 {
     values[c as usize]

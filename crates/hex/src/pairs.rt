@@ -37,7 +37,7 @@ fn pairs_until(len: usize, size: usize, from: usize, end: usize) -> usize
 // Takes in pairs of digits, a byte each, for as long as there are any that are kept, and leaves the rest to the caller.
 // Most of a replay's time goes here: a turn tests no index, and looks both digits up before it tests either, which the
 // compiler makes into one jump.
-pub fn take_pairs(line: Line, frame: &mut [u8], piece: &[u8], from: usize) -> Taken
+pub(crate) fn take_pairs(line: Line, frame: &mut [u8], piece: &[u8], from: usize) -> Taken
     ensures { λ r. ⌜ r ≡ frontOf line (now (frame .entry)) (now (piece .entry)) from .taken ⌝ }
     ensures { λ _. ⌜ now (frame .exit) ≡ frontOf line (now (frame .entry)) (now (piece .entry)) from .frame ⌝ }
 {

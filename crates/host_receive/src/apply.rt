@@ -33,7 +33,7 @@ fn take_effect(words: &mut [u64], memory: &mut [u8], h: MessageHeader, payload: 
 }
 
 // The first n messages of a frame take effect, or as many as it has.
-pub fn apply(words: &mut [u64], f: &[u8], memory: &mut [u8], n: u32)
+pub(crate) fn apply(words: &mut [u64], f: &[u8], memory: &mut [u8], n: u32)
     ensures { λ _. ⌜ Applies (now (words .entry)) (now (f .entry)) (now (memory .entry)) n (now (words .exit))
         (now (memory .exit)) ⌝ }
 {

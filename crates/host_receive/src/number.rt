@@ -12,7 +12,7 @@ ghost use Rattle.host_words.specs.Updating.{withHead};
 ghost use Rattle.host_receive.specs.Numbering.{isNew, acceptedHead, runOfAccepted, Accepts};
 
 // Whether a frame d past the next one is in the window and was not accepted yet.
-pub fn is_new(marks: u64, d: u16) -> bool
+pub(crate) fn is_new(marks: u64, d: u16) -> bool
     ensures { λ r. ⌜ r ≡ isNew marks d ⌝ }
 {
     if 64 <= d {
@@ -26,7 +26,7 @@ pub fn is_new(marks: u64, d: u16) -> bool
 
 // A frame is accepted: it is marked, the window begins at the first number that is not accepted, and the transactions'
 // window is the one that the frame leaves. Answers the run of numbers that the frame acknowledges.
-pub fn accept(words: &mut [u64], number: FrameNo, lowest: TransNo, closed: u32) -> u8
+pub(crate) fn accept(words: &mut [u64], number: FrameNo, lowest: TransNo, closed: u32) -> u8
     ensures { λ r. ⌜ r ≡ runOfAccepted (headPart (pairOf (now (words .entry)))) (number .0) ⌝ }
     ensures { λ _. ⌜ now (words .exit) ≡ withHead (now (words .entry))
         (acceptedHead (headPart (pairOf (now (words .entry)))) (number .0) (lowest .0) closed) ⌝ }

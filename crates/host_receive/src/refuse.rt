@@ -12,7 +12,7 @@ ghost use Rattle.host_receive.specs.Counting.{runAt};
 ghost use Rattle.host_receive.specs.Refusing.{refusedWith, numberAnswered};
 
 // Refused, with the number and the place.
-pub fn refusing(number: u8, place: u32) -> Answer
+pub(crate) fn refusing(number: u8, place: u32) -> Answer
     ensures { λ r. ⌜ r ≡ refused number place ⌝ }
 {
     Answer::Refused(Refusal { number, place })
@@ -26,7 +26,7 @@ fn again(number: FrameNo, marks: u64, d: u16) -> Answer
 }
 
 // The answer to a frame of which a message is refused: its layout, past that message too, comes first.
-pub fn refuse(own: u16, peer: u16, f: &[u8], stop: u8, place: u32) -> Answer
+pub(crate) fn refuse(own: u16, peer: u16, f: &[u8], stop: u8, place: u32) -> Answer
     ensures { λ r. ⌜ r ≡ refusedWith own peer (now (f .entry)) stop place ⌝ }
 {
     let cut = layout::refusal_of(f, own, peer);
@@ -38,7 +38,7 @@ pub fn refuse(own: u16, peer: u16, f: &[u8], stop: u8, place: u32) -> Answer
 
 // The answer to a frame with messages, d past the next one, that is behind, ahead, or in the window and accepted
 // already: its layout comes first.
-pub fn answer_by_number(
+pub(crate) fn answer_by_number(
     own: u16,
     peer: u16,
     f: &[u8],

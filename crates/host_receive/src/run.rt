@@ -24,14 +24,14 @@ fn run_behind(marks: u64, d: u16) -> u8
 }
 
 // From a number in the window on: the marks that are set from its own on.
-pub fn run_within(marks: u64, d: u16) -> u8
+pub(crate) fn run_within(marks: u64, d: u16) -> u8
     ensures { λ r. ⌜ r ≡ runWithin marks d ⌝ }
 {
     at_most_255(word64::trailing_ones(word64::shifted(marks, d as u32)))
 }
 
 // From a number on that is behind, or in the window and accepted.
-pub fn run_at(marks: u64, d: u16) -> u8
+pub(crate) fn run_at(marks: u64, d: u16) -> u8
     ensures { λ r. ⌜ r ≡ runAt marks d ⌝ }
 {
     if 32768 <= d {

@@ -215,7 +215,7 @@ fn find_kept(words: &[u64], kept: &mut [u64], f: &[u8], size: usize) -> Validate
 // Judges a frame's messages, each against what those before it leave. At first changed entries are not kept, which is
 // enough for a frame whose messages are of different transactions or each complete theirs; only where one is met again,
 // all is judged anew with words to keep them in, whose clearing costs as much as a short frame.
-pub fn validate(words: &[u64], f: &[u8], size: usize) -> Validated
+pub(crate) fn validate(words: &[u64], f: &[u8], size: usize) -> Validated
     ensures { λ r. ⌜ r ≡ validatedOf (now (f .entry)) (transactionsOf (pairOf (now (words .entry)))) size ⌝ }
 {
     let found = find_apart(words, f, size);

@@ -22,14 +22,14 @@ fn messages_of(count: u16) -> u16
 }
 
 // Whether the messages received equal the count, with this one: then it completes its transaction.
-pub fn completes(o: Open, h: MessageHeader) -> bool
+pub(crate) fn completes(o: Open, h: MessageHeader) -> bool
     ensures { λ r. ⌜ r ≡ fills o h ⌝ }
 {
     messages_of(h.count) as u32 == o.received as u32 + 1
 }
 
 // The entry of a transaction with one message more, which does not complete it.
-pub fn one_more(o: Open, h: MessageHeader) -> Open
+pub(crate) fn one_more(o: Open, h: MessageHeader) -> Open
     ensures { λ r. ⌜ r ≡ oneMore o h ⌝ }
 {
     Open {
@@ -41,7 +41,7 @@ pub fn one_more(o: Open, h: MessageHeader) -> Open
 }
 
 // The entry that a message leaves which is not refused.
-pub fn left_in(o: Open, h: MessageHeader) -> Open
+pub(crate) fn left_in(o: Open, h: MessageHeader) -> Open
     ensures { λ r. ⌜ r ≡ leftIn o h ⌝ }
 {
     if completes(o, h) {
@@ -67,7 +67,7 @@ fn closed_after(lowest: TransNo, closed: u32, d: u32) -> Verdict
 
 // The verdict on a message with len data bytes, against the window and the entry of its transaction in the table, and a
 // memory of size bytes.
-pub fn judge(
+pub(crate) fn judge(
     lowest: TransNo,
     closed: u32,
     o: Open,

@@ -65,7 +65,7 @@ pub fn put_answer(out: &mut [u8], at: usize, answer: Answer) -> usize
 
 impl Totals {
     // The totals after one more answer.
-    pub fn with(self, answer: Answer) -> Totals
+    pub(crate) fn with(self, answer: Answer) -> Totals
         ensures { λ r. ⌜ r ≡ totalled self answer ⌝ }
     {
         match answer {

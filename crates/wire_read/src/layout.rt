@@ -68,7 +68,7 @@ impl Layout {
 // ---- the heading: refusals 1 to 4, which the frame's length and header decide
 
 // The flags of a frame; 0 where it is too short to have any.
-pub fn flags_of(f: &[u8]) -> u8
+pub(crate) fn flags_of(f: &[u8]) -> u8
     ensures { λ r. ⌜ r ≡ flags (now (f .entry)) ⌝ }
 {
     let head = crate::frame_header(f);
@@ -76,7 +76,7 @@ pub fn flags_of(f: &[u8]) -> u8
 }
 
 // Whether the frame goes to own and comes from peer.
-pub fn is_addressed(f: &[u8], own: u16, peer: u16) -> bool
+pub(crate) fn is_addressed(f: &[u8], own: u16, peer: u16) -> bool
     ensures { λ r. ⌜ r ≡ addressed own peer (now (f .entry)) ⌝ }
 {
     let head = crate::frame_header(f);
@@ -87,7 +87,7 @@ pub fn is_addressed(f: &[u8], own: u16, peer: u16) -> bool
 }
 
 // The refusal where the two IDs are the expected ones or not; 0 for none.
-pub fn heading_where(f: &[u8], ids: bool) -> u8
+pub(crate) fn heading_where(f: &[u8], ids: bool) -> u8
     ensures { λ r. ⌜ r ≡ headingOf ids (now (f .entry)) ⌝ }
 {
     if f.len() < wire::FRAME_HEADER {

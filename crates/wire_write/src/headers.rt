@@ -12,7 +12,7 @@ ghost use Rattle.wire.specs.Writing.{frameHead, messageHead, ackFrame};
 const UNUSED: u8 = 0;
 
 // A frame header as its 10 bytes.
-pub fn frame_head(
+pub(crate) fn frame_head(
     to: u16,
     from: u16,
     number: FrameNo,
@@ -54,7 +54,7 @@ pub fn ack_frame(
 }
 
 // The header of a frame's last message, as its 24 bytes. Its length field has the length of the data modulo 65,536.
-pub fn message_head(h: MessageHeader, payload: &[u8]) -> [u8; MESSAGE_HEADER]
+pub(crate) fn message_head(h: MessageHeader, payload: &[u8]) -> [u8; MESSAGE_HEADER]
     ensures { λ r. ⌜ r ≡ messageHead (carrying h (now (payload .entry))) 0 ⌝ }
 {
     let trans = h.trans.0;
