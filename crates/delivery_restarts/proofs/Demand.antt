@@ -57,7 +57,7 @@ use Rattle.delivery_restarts.proofs.Restarting.{
 }
 
 -- an opening that is not refused has IDs that are not 0
-opened-some : (own peer : ℕ) → openedOf own peer .refusal .number ≡ 0 → (own ≢ 0) × (peer ≢ 0)
+pub opened-some : (own peer : ℕ) → openedOf own peer .refusal .number ≡ 0 → (own ≢ 0) × (peer ≢ 0)
 unfolding openedOf
 opened-some own peer = go (eqb own 0) refl (eqb peer 0) refl
   where

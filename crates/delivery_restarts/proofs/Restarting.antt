@@ -9,7 +9,7 @@ use mathlib.Core.List.{List, [], _∷_, _++_, append-nil, map, List·Memᴰ}
 use mathlib.Core.Option.{Option, none, some}
 use borrow.Author.Tests.{eqb-true}
 use lib.Dec.{eqb, lit<}
-use lib.ListN.{getD, getElem?, take}
+use lib.ListN.{getD, getElem?}
 use Rattle.seq.specs.Ring.{frameSpace}
 use Rattle.host.specs.declared.Pair.{Pair}
 use Rattle.host.specs.declared.Opened.{Opened}
@@ -34,7 +34,7 @@ use Rattle.delivery.specs.Demand3.{typed, inTime, WritesAllowed, seenAs}
 use Rattle.delivery.proofs.Book.Along.{Along, along-more, along-alike}
 use Rattle.delivery.proofs.Agree.{SystemFor}
 use Rattle.delivery.proofs.Demand.{step-any}
-use Rattle.delivery_restarts.specs.Restarts.{Store, specifiedStore, Kept, keptBy, returned, Site}
+use Rattle.delivery_restarts.specs.Restarts.{Store, textLeft, specifiedStore, Kept, keptBy, returned, Site}
 use Rattle.delivery_restarts.specs.OverRestarts.{acceptances, nothingSince}
 use Rattle.delivery_restarts.proofs.Accepting.{acceptance, unmoved, accepted-in, accepted-more}
 use Rattle.delivery_restarts.proofs.Reaching.{receives-reachable}
@@ -59,7 +59,7 @@ module _ {A B : Type 0} (R : A → B → Type 0) where
 -- A pair that a run can reach, with IDs that are not 0, is read back from the text that storing leaves.
 abbrev pub KeepsPairs : Store → Type 0
 KeepsPairs s = (p : Pair) (buffer : List ℕ) → Reachable p → p .own ≢ 0 → p .peer ≢ 0 → s .storing p buffer .refusal ≡ 0
-    → s .restoring (take (s .storing p buffer .length) (s .filling p buffer)) .pair ≡ p
+    → s .restoring (textLeft s p buffer) .pair ≡ p
 
 pub read-back : KeepsPairs specifiedStore
 read-back p buffer r own peer e =
@@ -170,10 +170,7 @@ module _ (cardId hostId : ℕ) (cardFits : cardId < frameSpace) (hostFits : host
     }
       where
         now : Kept
-        now = record {
-          text = take (keep .storing (s .host) buffer .length) (keep .filling (s .host) buffer);
-          memory = s .memory;
-        }
+        now = record { text = textLeft keep (s .host) buffer; memory = s .memory }
 
         reads : keep .storing (s .host) buffer .refusal ≡ 0 → keep .restoring (now .text) .pair ≡ s .host
         reads =

@@ -29,6 +29,10 @@ pub record Store : Type 0 where
   pub filling : Pair → List ℕ → List ℕ
   pub restoring : List ℕ → Opened
 
+-- The text of a pair: what a storing leaves in the buffer, as far as its answer says.
+abbrev pub textLeft : Store → Pair → List ℕ → List ℕ
+textLeft s p buffer = take (s .storing p buffer .length) (s .filling p buffer)
+
 -- The store that the rules describe: the one that the code promises to be.
 abbrev pub specifiedStore : Store
 specifiedStore = record { storing = storedOf; filling = bufferOf; restoring = readText }
@@ -79,13 +83,11 @@ ordinaryStep e w x =
     let s = step e (w .system) x in
     record { site = record { system = s .system; kept = w .kept }; shown = showsCall (s .observation) }
 
--- A storing changes neither end. The text is what it leaves in the buffer, as far as its answer says; a refused one
--- keeps nothing.
+-- A storing changes neither end; a refused one keeps nothing.
 unfoldable pub keptBy : Store → System → List ℕ → List Kept
 keptBy s w buffer =
-    let a = s .storing (w .host) buffer in
-    let text = take (a .length) (s .filling (w .host) buffer) in
-    cond (eqb (a .refusal) 0) (record { text = text; memory = w .memory } ∷ []) []
+    cond (eqb (s .storing (w .host) buffer .refusal) 0)
+    (record { text = textLeft s (w .host) buffer; memory = w .memory } ∷ []) []
 
 abbrev pub storingStep : Store → Site → List ℕ → SiteResult
 storingStep s w buffer = record {
