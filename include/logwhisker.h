@@ -6,7 +6,8 @@
  * Ownership. The caller owns every object and every buffer; the library allocates
  * nothing, keeps no pointer from one call to the next and has no state of its own.
  * An lw_host or lw_card is a plain value without pointers: it needs no closing,
- * and a copy of it is a snapshot. Its words are the library's business.
+ * and a copy of it is a snapshot. A card that goes back to one gives frame numbers
+ * a second time, and loses data. Its words are the library's business.
  *
  * Lent buffers. A pointer comes with the number of bytes there and needs no
  * alignment; with length 0 it may be NULL. What a call writes may not overlap
