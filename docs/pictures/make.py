@@ -97,9 +97,12 @@ def grouped(n):
 
 # ---- frame and message layout
 
-FRAME_HEADER = [("destination ID", 2), ("source ID", 2), ("frame number", 2), ("ACKStart", 2), ("ACKCount", 1), ("flags", 1)]
+FRAME_HEADER = [
+    ("destination ID", 2), ("source ID", 2), ("frame number", 2), ("ACKStart", 2), ("ACKCount", 1), ("flags", 1),
+]
 MESSAGE_HEADER = [
-    ("transaction", 4), ("completion address", 4), ("completion value", 4), ("count of data messages", 2), ("unused", 2),
+    ("transaction", 4), ("completion address", 4), ("completion value", 4), ("count of data messages", 2),
+    ("unused", 2),
     ("data address", 4), ("data length", 2), ("unused", 1), ("trailing", 1),
 ]
 FRAME_HEAD = sum(size for _, size in FRAME_HEADER)
@@ -168,7 +171,8 @@ def frame_bar(p, x, y, unit, parts):
 
 def whole_frame(p, x, y, lengths):
     parts, unit = frame_parts(lengths), 13
-    p.text(x, y - 48, f"A frame with two messages, of {lengths[0]} and {lengths[1]} bytes of data", 17, "start", bold=True)
+    title = f"A frame with two messages, of {lengths[0]} and {lengths[1]} bytes of data"
+    p.text(x, y - 48, title, 17, "start", bold=True)
     p.text(x, y - 28, "Offsets in bytes from the frame's first. All numbers little endian. At most 9,000 bytes.",
            12, "start", SOFT)
     frame_bar(p, x, y, unit, parts)
@@ -201,10 +205,12 @@ def message_header(p, x, y):
     p.text(x, y - 24, "Message header, 24 bytes; offsets from its own start", 15, "start", bold=True)
     strip(p, x, y, 40, MESSAGE_HEADER, GREEN)
     p.lines(x, y + 88, [
-        "trailing: written 1 where another message follows, 0 at the last; 0 is read as \"last\", all else as \"another follows\"",
+        "trailing: written 1 where another message follows, 0 at the last; 0 is read as \"last\", all else as "
+        "\"another follows\"",
         "unused: written 0, ignored on reading",
         "data: follows the header at once, as many bytes as data length says",
-        "completion: its 4-byte value goes to its address, straight after the data of the message that completes the transaction",
+        "completion: its 4-byte value goes to its address, straight after the data of the message that completes the "
+        "transaction",
         "count 0: one bare message of data length 0, which carries the completion alone",
     ], 11.5, "start", lead=1.5)
 
@@ -291,7 +297,8 @@ def transaction_ring(p, cx, cy):
     direction(p, cx, cy, 74)
     p.text(cx, cy + 22, "numbers grow", 11, colour=SOFT)
     p.text(cx, cy + 38, "clockwise", 11, colour=SOFT)
-    for turn, words in [(0.022, "0 = lowest"), (0.118, str(OPEN - 1)), (0.165, str(OPEN)), (0.978, grouped(TRANSACTIONS - 1))]:
+    last = grouped(TRANSACTIONS - 1)
+    for turn, words in [(0.022, "0 = lowest"), (0.118, str(OPEN - 1)), (0.165, str(OPEN)), (0.978, last)]:
         edge_label(p, cx, cy, outer, turn, words)
 
 
@@ -335,8 +342,9 @@ def draw_windows():
         (RED, "32 to 4,294,967,295", "outside: refusal 7"),
     ])
     first, marked = 65530, {65531, 65532, 3}
-    p.text(30, 510, "The window comes round with the numbers", 16, "start", bold=True)
-    cells(p, 30, 548, first, FRAMES, marked, 11, WINDOW, "next is 65,530; 65,531, 65,532 and 3 are accepted (3 has d = 9):")
+    p.text(30, 510, "The window wraps with the numbers", 16, "start", bold=True)
+    said = "next is 65,530; 65,531, 65,532 and 3 are accepted (3 has d = 9):"
+    cells(p, 30, 548, first, FRAMES, marked, 11, WINDOW, said)
     moved = passed(first, FRAMES, marked | {first})
     cells(p, 30, 634, moved, FRAMES, marked, 11, WINDOW,
           f"65,530 is accepted: next moves past every consecutive accepted number, to {grouped(moved)} "
@@ -344,7 +352,8 @@ def draw_windows():
     p.text(30, 700, f"With next 3, frame 65,530 has d = {grouped((65530 - 3) % FRAMES)}: behind.", 12, "start")
     lowest = 4294967290
     cells(p, 30, 754, lowest, TRANSACTIONS, set(), 8, OPEN,
-          f"Transactions: lowest not complete 4,294,967,290; number {(lowest + 31) % TRANSACTIONS} is the last in the window, "
+          f"Transactions: lowest not complete 4,294,967,290; number {(lowest + 31) % TRANSACTIONS} is the last in the "
+          "window, "
           f"{(lowest + 32) % TRANSACTIONS} gets refusal 7:")
     p.lines(30, 826, [
         "The card's side: with 64 sealed frames not released no message is added (21); with 32 transactions from the",
@@ -426,8 +435,10 @@ def host_frame(p, y):
     bottom = y + STATE_H + 26
     right, left = 24 + 283 * 3 + STATE_W / 2, 24 + STATE_W / 2
     p.path(f"M{num(right)} {bottom}V{bottom + 24}H{num(left)}V{bottom + 1}", stroke=SOFT, dash="4 3", arrow=True)
-    p.text((left + right) / 2, bottom + 40, "the number comes round: d falls below 32,768, and a later frame bears it", 10.5)
-    p.text(24, bottom + 62, "Whatever the number: refusals 1 to 5 come first, then a clear flag is answered \"no messages\". "
+    said = "numbers wrap: d falls below 32,768, and a later frame has the number"
+    p.text((left + right) / 2, bottom + 40, said, 10.5)
+    p.text(24, bottom + 62,
+           "Whatever the number: refusals 1 to 5 come first, then a clear flag is answered \"no messages\". "
            "Accepted and again are each acknowledged.", 11.5, "start", SOFT)
 
 
@@ -467,7 +478,8 @@ def host_transaction(p, y):
         ["a message of it:", "refusal 8"],
         ["a message of it:", "refusal 7"],
     ])
-    p.text(24, y + 130, "Count 0 and count 1: the message that opens it closes it. A number outside the window, on either side: "
+    p.text(24, y + 130,
+           "Count 0 and count 1: the message that opens it closes it. A number outside the window, on either side: "
            "refusal 7.", 11.5, "start", SOFT)
 
 
@@ -586,7 +598,8 @@ def repeated(p, x, y):
     j.frame(20, 40, "frame 0")
     middle = (j.card + j.host) / 2
     x, y = num(middle), j.top
-    p.path(f"M{x} {num(y + 30)}C{x} {num(y + 80)} {x} {num(y + 96)} {num(j.host - 1)} {num(y + 116)}", dash="4 3", arrow=True)
+    bend = f"M{x} {num(y + 30)}C{x} {num(y + 80)} {x} {num(y + 96)} {num(j.host - 1)} {num(y + 116)}"
+    p.path(bend, dash="4 3", arrow=True)
     j.at_host(44, "accepted", GREEN, ["judged, written,", "number marked"])
     j.ack(62, 82, "acknowledges 0")
     j.at_card(90, "released", GREY)
@@ -726,7 +739,8 @@ def draw_crates(found, titles):
         p.rect(left, top[level], right - left, high[level], fill, RULE, 10, "4 3" if floor == KIT else "", 0.8)
         p.text(left + 14, top[level] + 20, titles[floor], 11.5, "start", SOFT)
         for i, (label, names) in enumerate(lines[floor]):
-            p.text(left + 14, top[level] + 51 + 36 * i, label, 11.5, "start", SOFT)
+            if label:
+                p.text(left + 14, top[level] + 51 + 36 * i, label, 11.5, "start", SOFT)
             for name, x, wide in names:
                 p.rect(x, top[level] + 32 + 36 * i, wide, 28, "#ffffff", round=5)
                 p.text(x + wide / 2, top[level] + 51 + 36 * i, name, 13, mono=True)
