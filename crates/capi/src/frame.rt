@@ -2,13 +2,14 @@
 // caller that a slice's pointer and length are right (include/logwhisker.h). It promises one number a call, over any
 // bytes, as specs/Numbers.antt, wire_read/specs/Layout.antt and wire/specs/Reading.antt say.
 use bitmap::word64;
+use seq::FrameNo;
+use wire::FrameHeader;
 use wire_read::layout;
 ghost use mathlib.Core.Path.{_≡_};
 ghost use Rattle.bitmap.specs.Marks.{trailingOnes};
 ghost use Rattle.refusal.specs.Class.{classOf, classNumber};
-ghost use Rattle.wire.specs.Reading.{destination, source, number, ackStart, ackCount, flags};
-ghost use Rattle.wire_read.specs.Layout.{numberOf, messagesOf, bytesOf, unlessRefused};
-ghost use Rattle.capi.specs.Numbers.{layoutIn};
+ghost use Rattle.wire_read.specs.Layout.{numberOf, messagesOf, bytesOf};
+ghost use Rattle.capi.specs.Numbers.{layoutIn, headerIn};
 
 // 0 where the layout can be read, else the refusal: 1, 2, 4 or 5.
 #[no_mangle]
@@ -34,47 +35,65 @@ pub extern "C" fn lw_data_bytes(frame: &[u8]) -> u32
     layout::layout_of(frame).data_bytes()
 }
 
-// The fields of the frame header, as they stand on the wire; 0 where the layout is refused.
+// The frame header, as it stands on the wire; zeros where the layout is refused. Each call below gives a field of it.
+fn header_in(frame: &[u8]) -> FrameHeader
+    ensures { λ r. ⌜ r ≡ headerIn (now (frame .entry)) ⌝ }
+{
+    let read = layout::layout_of(frame);
+    let header = wire_read::frame_header(frame);
+    match read {
+        layout::Layout::Counts(_, _) => header,
+        layout::Layout::Refused(_) => FrameHeader {
+            destination: 0,
+            source: 0,
+            number: FrameNo(0),
+            ackstart: FrameNo(0),
+            ackcount: 0,
+            flags: 0,
+        },
+    }
+}
+
 #[no_mangle]
 pub extern "C" fn lw_destination(frame: &[u8]) -> u32
-    ensures { λ r. ⌜ r ≡ unlessRefused (layoutIn (now (frame .entry))) (destination (now (frame .entry))) ⌝ }
+    ensures { λ r. ⌜ r ≡ headerIn (now (frame .entry)) .destination ⌝ }
 {
-    layout::layout_of(frame).unless_refused(wire_read::frame_header(frame).destination as u32)
+    header_in(frame).destination as u32
 }
 
 #[no_mangle]
 pub extern "C" fn lw_source(frame: &[u8]) -> u32
-    ensures { λ r. ⌜ r ≡ unlessRefused (layoutIn (now (frame .entry))) (source (now (frame .entry))) ⌝ }
+    ensures { λ r. ⌜ r ≡ headerIn (now (frame .entry)) .source ⌝ }
 {
-    layout::layout_of(frame).unless_refused(wire_read::frame_header(frame).source as u32)
+    header_in(frame).source as u32
 }
 
 #[no_mangle]
 pub extern "C" fn lw_frame_number(frame: &[u8]) -> u32
-    ensures { λ r. ⌜ r ≡ unlessRefused (layoutIn (now (frame .entry))) (number (now (frame .entry))) ⌝ }
+    ensures { λ r. ⌜ r ≡ headerIn (now (frame .entry)) .number .0 ⌝ }
 {
-    layout::layout_of(frame).unless_refused(wire_read::frame_header(frame).number.0 as u32)
+    header_in(frame).number.0 as u32
 }
 
 #[no_mangle]
 pub extern "C" fn lw_ack_start(frame: &[u8]) -> u32
-    ensures { λ r. ⌜ r ≡ unlessRefused (layoutIn (now (frame .entry))) (ackStart (now (frame .entry))) ⌝ }
+    ensures { λ r. ⌜ r ≡ headerIn (now (frame .entry)) .ackstart .0 ⌝ }
 {
-    layout::layout_of(frame).unless_refused(wire_read::frame_header(frame).ackstart.0 as u32)
+    header_in(frame).ackstart.0 as u32
 }
 
 #[no_mangle]
 pub extern "C" fn lw_ack_count(frame: &[u8]) -> u32
-    ensures { λ r. ⌜ r ≡ unlessRefused (layoutIn (now (frame .entry))) (ackCount (now (frame .entry))) ⌝ }
+    ensures { λ r. ⌜ r ≡ headerIn (now (frame .entry)) .ackcount ⌝ }
 {
-    layout::layout_of(frame).unless_refused(wire_read::frame_header(frame).ackcount as u32)
+    header_in(frame).ackcount as u32
 }
 
 #[no_mangle]
 pub extern "C" fn lw_flags(frame: &[u8]) -> u32
-    ensures { λ r. ⌜ r ≡ unlessRefused (layoutIn (now (frame .entry))) (flags (now (frame .entry))) ⌝ }
+    ensures { λ r. ⌜ r ≡ headerIn (now (frame .entry)) .flags ⌝ }
 {
-    layout::layout_of(frame).unless_refused(wire_read::frame_header(frame).flags as u32)
+    header_in(frame).flags as u32
 }
 
 // The class of a refusal number: 0 none, 1 wire, 2 message, 3 caller, 4 card.

@@ -76,7 +76,14 @@ fn or_address_refusal(terms: u8, size: usize, h: MessageHeader, len: u16) -> u8
 }
 
 // The first refusal of a message with len data bytes, 0 for none.
-pub(crate) fn first_refusal(d: u32, closed: u32, o: Open, h: MessageHeader, len: u16, size: usize) -> u8
+pub(crate) fn first_refusal(
+    d: u32,
+    closed: u32,
+    o: Open,
+    h: MessageHeader,
+    len: u16,
+    size: usize,
+) -> u8
     ensures { λ r. ⌜ r ≡ messageRefusal d closed o h len size ⌝ }
 {
     let terms = terms_refusal(d, closed, o, h, len);

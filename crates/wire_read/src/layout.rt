@@ -15,7 +15,7 @@ ghost use Rattle.wire.specs.Reading.{
   orPassesEnd,
   messagesFrom,
 };
-ghost use Rattle.wire_read.specs.Layout.{layoutOf, numberOf, messagesOf, bytesOf, unlessRefused};
+ghost use Rattle.wire_read.specs.Layout.{layoutOf, numberOf, messagesOf, bytesOf};
 
 // A frame as a whole: the refusal's number; or its messages and their data bytes.
 pub enum Layout {
@@ -51,16 +51,6 @@ impl Layout {
         match self {
             Layout::Refused(_) => 0,
             Layout::Counts(_, bytes) => bytes,
-        }
-    }
-
-    // A number of the frame; 0 where the frame is refused.
-    pub fn unless_refused(self, n: u32) -> u32
-        ensures { λ r. ⌜ r ≡ unlessRefused self n ⌝ }
-    {
-        match self {
-            Layout::Refused(_) => 0,
-            Layout::Counts(_, _) => n,
         }
     }
 }

@@ -1,40 +1,22 @@
--- `capi::frame::lw_destination`: a field of the header that the reader promises.
+-- `capi::frame::lw_destination`: a field of the header that `header_in` promises.
 -- Assumes nothing.
-use mathlib.Core.Path.{_∙_}
-use Rattle.wire_read.specs.Finding.{headerOf}
+use mathlib.Core.Path.{ap}
+use Rattle.wire.specs.declared.FrameHeader.{FrameHeader}
 use borrow.Author.Needs.{needs}
 use Rattle.capi.proofs.frame.lw_destination.Statement.{statement}
 use Rattle.capi.proofs.frame.lw_destination.Tie as tie
 use Rattle.capi.proofs.frame.lw_destination.Reads as reads
 use Rattle.capi.proofs.frame.lw_destination.Lts as lts
-use Rattle.wire_read.proofs.layout.Layout.unless_refused.Reads as unless-refused-reads
-use Rattle.wire_read.proofs.frame_header.Reads as frame-header-reads
-use Rattle.wire_read.proofs.layout.layout_of.Reads as layout-of-reads
+use Rattle.capi.proofs.frame.header_in.Reads as header-in-reads
 
-layout-of-requires : tie.Need-layout-of-requires
-layout-of-requires c κs = search needs
+header-in-requires : tie.Need-header-in-requires
+header-in-requires c κs = search needs
 
-frame-header-requires : tie.Need-frame-header-requires
-frame-header-requires c κs = search needs
-
-cast-unless-refused : tie.Need-cast-unless-refused
-cast-unless-refused c = search needs
-
-unless-refused-requires : tie.Need-unless-refused-requires
-unless-refused-requires c κs = search needs
+cast-result : tie.Need-cast-result
+cast-result c = search needs
 
 returns : tie.Need-returns
-unfolding headerOf
-returns c =
-    c .unless-refused .ensures
-    ∙ rw (c .before .before .before .layout-of .ensures, c .before .before .frame-header .ensures)
+returns c = ap (λ (h : FrameHeader). h .destination) (c .before .header-in .ensures)
 
 pub lw-destination-spec : {M : Type 1} → statement M
-lw-destination-spec =
-    tie.close
-    (tie.spec
-    layout-of-requires
-    frame-header-requires
-    cast-unless-refused
-    unless-refused-requires
-    returns)
+lw-destination-spec = tie.close (tie.spec header-in-requires cast-result returns)
