@@ -3,4 +3,7 @@ pub mod Adding
 pub mod Finishing
 pub mod Range
 pub mod Slots
+pub mod Keeping
 pub mod Reachable
+pub mod Cases
+pub mod Finished

@@ -3,16 +3,16 @@
 use Prim.Native.Nat.{ℕ, _+_, _%_, _^_, _≤_, _<_}
 use mathlib.Core.Path.{_≡_}
 use mathlib.Core.Logic.{_≢_, _⊎_}
-use mathlib.Core.Bool.{false}
+use mathlib.Core.Bool.{true, false}
 use lib.ListN.{length, getD}
-use Rattle.seq.specs.Ring.{frameSpace, transSpace}
+use Rattle.seq.specs.Ring.{frameSpace, transSpace, distance}
 use Rattle.bitmap.specs.Marks.{mark}
 use Rattle.wire.specs.Format.{needed, frameMost}
 use Rattle.card.specs.declared.SendWindow.{SendWindow}
 use Rattle.card.specs.Window.{unreleased}
 use Rattle.card.specs.declared.Sending.{Sending}
 use Rattle.card.specs.declared.Sendings.{Sendings}
-use Rattle.card.specs.Sendings.{noSending, opened}
+use Rattle.card.specs.Sendings.{noSending, opened, sendingAt, allAdded}
 use Rattle.card.specs.declared.Card.{Card}
 
 -- The window of sealed frames, of which none is longer than `limit`.
@@ -53,6 +53,18 @@ pub record Orderly (s : Sendings) : Type 0 where
   pub unopened-clear : (i : ℕ) → opened s ≤ i → mark (s .finished) i ≡ false
   pub lowest-clear : mark (s .finished) 0 ≡ false
 
+-- The number of a frame that is sealed and not released, or of the one being built: at most 64 past `base`.
+abbrev pub NotReleased : SendWindow → ℕ → Type 0
+NotReleased w n = distance frameSpace (w .base .0) n ≤ unreleased w
+
+-- The transactions against the frames.
+pub record Settled (s : Sendings) (w : SendWindow) : Type 0 where
+  -- a finished one has all its messages added
+  pub finished-full : (i : ℕ) → mark (s .finished) i ≡ true → allAdded (sendingAt s (s .lowest .0 + i)) ≡ true
+  -- an unfinished one with all its messages added has the latest of them in a frame that is not released
+  pub full-waits : (i : ℕ) → i < opened s → mark (s .finished) i ≡ false
+      → allAdded (sendingAt s (s .lowest .0 + i)) ≡ true → NotReleased w (sendingAt s (s .lowest .0 + i) .frame .0)
+
 -- The frame being built, where there is one: it has a message, lies in its slot, and the slot is free for it.
 pub record Building (c : Card) : Type 0 where
   pub least : 34 ≤ c .used
@@ -70,3 +82,4 @@ pub record Reachable (c : Card) : Type 0 where
   pub building : ((c .used ≡ 0) × (c .last ≡ 0)) ⊎ Building c
   pub window : InOrder (c .window) (c .limit)
   pub sendings : Orderly (c .sendings)
+  pub settled : Settled (c .sendings) (c .window)

@@ -75,12 +75,16 @@ adding s t frame =
 
 -- ---- finishing
 
+-- All messages of a transaction are added: one bare one for count 0.
+abbrev pub allAdded : Sending → Bool
+allAdded e = eqb (e .added) (needed (e .count))
+
 -- A step releases the frames from `from` up to but not including `base`. All messages of the transaction are added, and
 -- the frame with the latest of them is one of these; its other messages lie in frames sealed no later. (Had that frame
--- been released earlier, the transaction would have been finished then.)
+-- been released earlier, the transaction would have been finished then: proofs/Finished.antt, `by-state`, shows that
+-- what a step finishes is what Finished.antt says without a step.)
 unfoldable pub allReleased : Sending → ℕ → ℕ → Bool
-allReleased e from base =
-    eqb (e .added) (needed (e .count)) && inRange frameSpace from (distance frameSpace from base) (e .frame .0)
+allReleased e from base = allAdded e && inRange frameSpace from (distance frameSpace from base) (e .frame .0)
 
 -- The i-th transaction from the lowest unfinished one on is finished (a term of the rules): it is opened, and it was
 -- finished before or all its messages lie in released frames now. What was finished stays so: a frame number that comes
