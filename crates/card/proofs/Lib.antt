@@ -7,3 +7,5 @@ pub mod Keeping
 pub mod Reachable
 pub mod Cases
 pub mod Finished
+pub mod Agreeing
+pub mod History

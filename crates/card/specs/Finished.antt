@@ -23,7 +23,8 @@ unfoldable pub liesReleased : SendWindow → Sending → Bool
 liesReleased w e = allAdded e && isReleased w (e .frame .0)
 
 -- The i-th transaction from the lowest unfinished one on is finished. The mark stands for one of which this held
--- earlier: a frame stays released, but its number is given again after 65,536 sealings.
+-- earlier: a frame stays released, but its number is given again after 65,536 sealings. (History.antt says the same
+-- without numbers, and so without marks.)
 unfoldable pub isFinished : SendWindow → Sendings → ℕ → Bool
 isFinished w s i =
     ltb i (opened s) && (mark (s .finished) i || liesReleased w (sendingAt s (s .lowest .0 + i)))
