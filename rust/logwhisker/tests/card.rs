@@ -347,6 +347,24 @@ fn marks_past_what_is_there_count_for_nothing() {
     assert_eq!(both.words()[3], 0, "finished");
 }
 
+/// A transaction without a mark, all of whose messages are added and whose last frame is
+/// neither unreleased nor being built, is not finished: no run reaches it, and the library
+/// asks only for frames that a reading releases.
+#[test]
+fn a_transaction_without_a_mark_waits_for_its_last_frame() {
+    let slots = vec![0; SLOTS * 34];
+    let mut words = *Proved::open(1, 2, 34, &slots)
+        .expect("a card can be opened")
+        .words();
+    words[3] = 1;
+    words[22] = 1 | 1 << 16 | 65_535 << 32;
+    let mut both = Both::from_words(words, &slots);
+    let name = || "no mark".to_string();
+    let frame = wire::ack_frame(1, 2, 0, 0, 255).to_vec();
+    assert_eq!(both.call(&Call::Read(frame), &name), Outcome::Done);
+    assert_eq!(both.words()[3], 1, "finished");
+}
+
 #[test]
 fn openings() {
     let limits = [

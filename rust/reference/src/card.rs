@@ -30,13 +30,13 @@ struct Building {
 }
 
 /// An opened transaction.
-#[derive(Clone, Copy, Debug, PartialEq, Eq)]
+#[derive(Clone, Debug, PartialEq, Eq)]
 struct Transaction {
     terms: Terms,
     /// Messages added.
     added: u16,
-    /// The frame that holds the latest of them; means nothing before the first.
-    last_frame: u64,
+    /// The frames that hold them.
+    frames: BTreeSet<u64>,
 }
 
 impl Transaction {
@@ -44,10 +44,11 @@ impl Transaction {
         self.added < self.terms.messages()
     }
 
-    /// All its messages are added, and the last of them lies in one of the frames that are
-    /// released now (C18).
-    fn finishes_by(&self, released: &Range<u64>) -> bool {
-        self.added == self.terms.messages() && released.contains(&self.last_frame)
+    /// All its messages are added and lie in released frames, which are those below this
+    /// one (C18).
+    fn is_finished(&self, released: u64) -> bool {
+        let mut latest_first = self.frames.iter().rev();
+        self.added == self.terms.messages() && latest_first.all(|frame| *frame < released)
     }
 }
 
@@ -136,7 +137,7 @@ impl Card {
                 completion_value,
             },
             added: 0,
-            last_frame: 0,
+            frames: BTreeSet::new(),
         };
         self.transactions.insert(self.place(transaction), entry);
         self.opened += 1;
@@ -155,7 +156,7 @@ impl Card {
         self.check(slots)?;
         let place = self.place_of(transaction);
         let place = place.ok_or(refusal::TRANSACTION_DONE)?;
-        let Transaction { terms, .. } = self.transactions[&place];
+        let terms = self.transactions[&place].terms;
         if !self.transactions[&place].wants_messages() {
             return Err(refusal::TRANSACTION_DONE);
         }
@@ -205,12 +206,9 @@ impl Card {
             length: end,
             last_header: start,
         });
-        let entry = Transaction {
-            added: self.transactions[&place].added + 1,
-            last_frame: frame,
-            terms,
-        };
-        self.transactions.insert(place, entry);
+        let entry = self.transactions.get_mut(&place).expect("it was found");
+        entry.added += 1;
+        entry.frames.insert(frame);
         Ok(())
     }
 
@@ -238,22 +236,22 @@ impl Card {
         let covered: Vec<u64> = numbers.filter_map(|n| self.sealed_frame(n)).collect();
         self.acknowledged.extend(covered);
         self.acknowledged.retain(|f| *f < end && *f < marked);
-        let before = self.released;
         while self.acknowledged.remove(&self.released) {
             self.released += 1;
             self.sealed -= 1;
         }
-        self.finish(&(before..self.released));
+        self.finish();
         Ok(())
     }
 
-    /// Finds those among the opened that these released frames finish, and passes those that
-    /// no unfinished one is below.
-    fn finish(&mut self, released: &Range<u64>) {
+    /// Finds what else of the opened ones is finished, and passes those that no unfinished
+    /// one is below.
+    fn finish(&mut self) {
         let end = self.lowest + self.opened;
         let window = self.lowest..end.min(self.lowest + self.transaction_window());
         let finished: Vec<u64> = window
-            .filter(|t| self.transactions[&self.place(*t)].finishes_by(released))
+            .filter(|t| !self.finished.contains(t))
+            .filter(|t| self.transactions[&self.place(*t)].is_finished(self.released))
             .collect();
         self.finished.extend(finished);
         self.finished.retain(|t| *t < end);

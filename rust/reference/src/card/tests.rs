@@ -325,6 +325,46 @@ fn a_transaction_is_not_finished_before_its_last_frame_is_released() {
     assert_eq!(ready.open(1), 34);
 }
 
+/// Messages in three frames, of which the last is acknowledged first.
+#[test]
+fn a_transaction_is_finished_when_all_its_frames_are_released() {
+    let mut ready = Ready::new(34);
+    let transaction = ready.open(3);
+    ready.seal_frames(transaction, 3);
+    for number in [2, 0] {
+        ready.acknowledge(number, 1);
+        assert_eq!((ready.card.lowest, ready.card.opened), (0, 1));
+    }
+    ready.acknowledge(1, 1);
+    assert_eq!((ready.card.lowest, ready.card.opened), (1, 0));
+}
+
+/// Transaction 0 is unfinished all the while, so that transaction 1 stays in the window with
+/// its last frame's number, 0. That number is given again to a frame that is not released.
+#[test]
+fn a_frame_number_given_again_decides_nothing() {
+    let mut ready = Ready::new(34);
+    for count in [1, 1, u16::MAX, 2] {
+        ready.open(count);
+    }
+    ready.seal_frames(1, 1);
+    ready.acknowledge(0, 1);
+    assert_eq!(ready.card.finished, BTreeSet::from([1]));
+    for _ in 0..u16::MAX {
+        ready.seal_frames(2, 1);
+        ready.acknowledge(ready.card.lowest_unreleased(), 1);
+    }
+    assert_eq!(ready.card.finished, BTreeSet::from([1, 2]));
+    assert_eq!(ready.card.next_number(), 0);
+    ready.seal_frames(3, 2);
+    ready.acknowledge(1, 1);
+    assert_eq!(ready.shown(0).map(<[u8]>::len), Ok(34), "unreleased");
+    assert_eq!(ready.card.finished, BTreeSet::from([1, 2]));
+    ready.seal_frames(0, 1);
+    ready.acknowledge(0, 3);
+    assert_eq!((ready.card.lowest, ready.card.opened), (4, 0));
+}
+
 #[test]
 fn frames_are_released_in_order() {
     let mut ready = Ready::new(34);

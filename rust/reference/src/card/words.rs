@@ -49,24 +49,33 @@ impl Card {
         card
     }
 
-    /// The transaction in two words. Its last frame is the one with this number among
-    /// those that are not released or are being built, otherwise one before them.
+    /// The transaction in two words. Of its frames they keep the number of the last.
+    ///
+    /// With all messages added that is the lowest frame with this number that is not
+    /// released: were it released, the transaction would be finished (C18), and only its
+    /// mark would count. Words that no run reaches may have a number there that no
+    /// unreleased frame has, and no mark; the number is then that of a frame to come. With
+    /// messages missing the last frame may be released: it is the one with this number
+    /// among those that are not released or are being built, otherwise one before them.
     fn transaction_in(&self, words: &[u64]) -> Transaction {
+        let terms = Terms {
+            count: words[1] as u16,
+            completion_address: words[0] as u32,
+            completion_value: (words[0] >> 32) as u32,
+        };
+        let added = field(words[1], 16, 16) as u16;
         let latest = field(words[1], 32, 16);
         let ahead = (latest as i64 - self.released as i64).rem_euclid(1 << 16) as u64;
-        let last_frame = self.released + ahead;
+        let not_released = self.released + ahead;
+        let last_frame = if ahead <= self.sealed || added == terms.messages() {
+            not_released
+        } else {
+            not_released - (1 << 16)
+        };
         Transaction {
-            terms: Terms {
-                count: words[1] as u16,
-                completion_address: words[0] as u32,
-                completion_value: (words[0] >> 32) as u32,
-            },
-            added: field(words[1], 16, 16) as u16,
-            last_frame: if ahead <= self.sealed {
-                last_frame
-            } else {
-                last_frame - (1 << 16)
-            },
+            terms,
+            added,
+            frames: (added > 0).then_some(last_frame).into_iter().collect(),
         }
     }
 
@@ -104,17 +113,13 @@ impl Card {
             let Transaction {
                 terms,
                 added,
-                last_frame,
-            } = self.transactions[&place];
+                frames,
+            } = &self.transactions[&place];
             let at = 21 + 2 * place as usize;
             words[at] =
                 u64::from(terms.completion_address) | u64::from(terms.completion_value) << 32;
-            let latest = if added > 0 {
-                field(last_frame, 0, 16)
-            } else {
-                0
-            };
-            words[at + 1] = u64::from(terms.count) | u64::from(added) << 16 | latest << 32;
+            let latest = frames.last().map_or(0, |frame| field(*frame, 0, 16));
+            words[at + 1] = u64::from(terms.count) | u64::from(*added) << 16 | latest << 32;
         }
         words
     }
