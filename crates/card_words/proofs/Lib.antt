@@ -1,3 +1,2 @@
 pub mod Heads
-pub mod Listed
 pub mod Words

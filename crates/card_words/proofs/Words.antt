@@ -1,21 +1,13 @@
 -- What is read of words, and the card that they are.
 -- Assumes nothing.
-use mathlib.Core.Path.{_≡_, refl, _∙_, ap}
-use mathlib.Core.List.{List, [], _∷_}
-use Prim.Native.Nat.{ℕ, zero, suc, _%_, _≤_}
-use native.Mathlib.Nat.{not-suc-le-zero}
+use mathlib.Core.Path.{_≡_, _∙_, ap}
+use mathlib.Core.List.{List}
+use Prim.Native.Nat.{ℕ, _%_}
 use native.Mathlib.Omega.{arith}
-use lib.ListN.{length, getD}
+use Rattle.words.proofs.Listed.{listed-at}
 use Rattle.card.specs.Window.{sizeOf}
 use Rattle.card.specs.Sendings.{noSending, sendingAt}
 use Rattle.card_words.specs.Words.{sizeIn, sendingIn, cardOf}
-use Rattle.card_words.proofs.Listed.{listed-at}
-
--- past the end there is 0
-pub getD-out : (w : List ℕ) (i : ℕ) → length w ≤ i → getD w i 0 ≡ 0
-getD-out [] i h = refl
-getD-out (x ∷ xs) zero h = absurd (not-suc-le-zero h)
-getD-out (x ∷ xs) (suc i) h = getD-out xs i (omega arith)
 
 -- a length, and a transaction
 pub size-is : (w : List ℕ) (n : ℕ) → sizeOf (cardOf w .window) n ≡ sizeIn w (n % 64)

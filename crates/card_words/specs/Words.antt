@@ -1,13 +1,14 @@
 -- A card in 85 words of 64 bits that a caller lends. `cardOf` says which card any words are; bits that it does not name
 -- count for nothing. Words 0 to 4 are the head, 5 to 20 the lengths of sealed frames, four a word, and 21 to 84 the
 -- transactions, two words each.
-use Prim.Native.Nat.{ℕ, zero, suc, _+_, _*_, _/_, _%_, _^_}
+use Prim.Native.Nat.{ℕ, _+_, _*_, _/_, _%_}
 use mathlib.Core.Path.{_≡_}
 use mathlib.Core.Logic.{_≢_}
 use mathlib.Core.Bool.{cond}
-use mathlib.Core.List.{List, [], _∷_}
+use mathlib.Core.List.{List}
 use lib.Dec.{eqb}
 use lib.ListN.{length, getD, set}
+use Rattle.words.specs.Words.{quarter, half, listed}
 use Rattle.card.specs.declared.Sending.{Sending}
 use Rattle.card.specs.declared.Card.{Card}
 use Rattle.card_words.specs.declared.Head.{Head}
@@ -17,15 +18,6 @@ cardWords = 85
 
 -- ---- decoding
 
--- The numbers that a test of an index gives from k on: n of them.
-unfoldable pub listed : {A : Type 0} → (ℕ → A) → ℕ → ℕ → List A
-listed f k zero = []
-listed f k (suc n) = f k ∷ listed f (suc k) n
-
--- The j-th 16 bits of a word.
-abbrev pub quarter : ℕ → ℕ → ℕ
-quarter x j = x / 2 ^ (16 * j) % 65536
-
 -- The length in slot k.
 abbrev pub sizeIn : List ℕ → ℕ → ℕ
 sizeIn w k = quarter (getD w (5 + k / 4) 0) (k % 4)
@@ -34,11 +26,11 @@ sizeIn w k = quarter (getD w (5 + k / 4) 0) (k % 4)
 -- latest.
 abbrev pub sendingBy : ℕ → ℕ → Sending
 sendingBy a b = record {
-  address = a % 4294967296;
-  value = a / 4294967296 % 4294967296;
-  count = b % 65536;
-  added = b / 65536 % 65536;
-  frame = record { 0 = b / 4294967296 % 65536 };
+  address = half a 0;
+  value = half a 1;
+  count = quarter b 0;
+  added = quarter b 1;
+  frame = record { 0 = quarter b 2 };
 }
 
 -- Entry k of the table.
@@ -47,21 +39,21 @@ sendingIn w k = sendingBy (getD w (21 + 2 * k) 0) (getD w (22 + 2 * k) 0)
 
 unfoldable pub cardOf : List ℕ → Card
 cardOf w = record {
-  own = getD w 0 0 % 65536;
-  peer = getD w 0 0 / 65536 % 65536;
-  limit = getD w 0 0 / 4294967296 % 65536;
-  used = getD w 0 0 / 281474976710656 % 65536;
-  last = getD w 1 0 % 65536;
+  own = quarter (getD w 0 0) 0;
+  peer = quarter (getD w 0 0) 1;
+  limit = quarter (getD w 0 0) 2;
+  used = quarter (getD w 0 0) 3;
+  last = quarter (getD w 1 0) 0;
   window = record {
     acked = getD w 2 0;
-    next = record { 0 = getD w 1 0 / 65536 % 65536 };
-    base = record { 0 = getD w 1 0 / 4294967296 % 65536 };
+    next = record { 0 = quarter (getD w 1 0) 1 };
+    base = record { 0 = quarter (getD w 1 0) 2 };
     sizes = listed (sizeIn w) 0 64;
   };
   sendings = record {
-    next = record { 0 = getD w 3 0 % 4294967296 };
-    lowest = record { 0 = getD w 3 0 / 4294967296 % 4294967296 };
-    finished = getD w 4 0 % 4294967296;
+    next = record { 0 = half (getD w 3 0) 0 };
+    lowest = record { 0 = half (getD w 3 0) 1 };
+    finished = half (getD w 4 0) 0;
     table = listed (sendingIn w) 0 32;
   };
 }

@@ -1,9 +1,10 @@
 -- A host's pair in 67 words that a caller lends: the IDs and the next frame, the marks, the transactions' window, and
 -- two words for each entry of the table. Any words at all hold a pair: one that is not there counts as 0, and bits that
 -- have no meaning are not looked at.
-use Prim.Native.Nat.{ℕ, zero, suc, _+_, _*_, _/_, _%_}
-use mathlib.Core.List.{List, [], _∷_}
+use Prim.Native.Nat.{ℕ, _+_, _*_}
+use mathlib.Core.List.{List}
 use lib.ListN.{getD}
+use Rattle.words.specs.Words.{quarter, half, listed}
 use Rattle.host.specs.declared.Open.{Open}
 use Rattle.host.specs.declared.Pair.{Pair}
 use Rattle.host_words.specs.declared.Head.{Head}
@@ -14,31 +15,26 @@ wordCount = 67
 -- The entry that two words hold: completion address and value, count and received.
 abbrev pub openOf : ℕ → ℕ → Open
 openOf terms counts = record {
-  address = terms % 4294967296;
-  value = terms / 4294967296 % 4294967296;
-  count = counts % 65536;
-  received = counts / 65536 % 65536;
+  address = half terms 0;
+  value = half terms 1;
+  count = quarter counts 0;
+  received = quarter counts 1;
 }
 
 -- Entry s of the table.
 abbrev pub entryOf : List ℕ → ℕ → Open
 entryOf w s = openOf (getD w (3 + 2 * s) 0) (getD w (4 + 2 * s) 0)
 
--- n entries from entry s on.
-unfoldable pub entriesFrom : ℕ → ℕ → List ℕ → List Open
-entriesFrom zero s w = []
-entriesFrom (suc n) s w = entryOf w s ∷ entriesFrom n (suc s) w
-
 -- The pair that the words hold.
 unfoldable pub pairOf : List ℕ → Pair
 pairOf w = record {
-  own = getD w 0 0 % 65536;
-  peer = getD w 0 0 / 65536 % 65536;
-  next = record { 0 = getD w 0 0 / 4294967296 % 65536 };
+  own = quarter (getD w 0 0) 0;
+  peer = quarter (getD w 0 0) 1;
+  next = record { 0 = quarter (getD w 0 0) 2 };
   marks = getD w 1 0;
-  lowest = record { 0 = getD w 2 0 % 4294967296 };
-  closed = getD w 2 0 / 4294967296 % 4294967296;
-  table = entriesFrom 32 0 w;
+  lowest = record { 0 = half (getD w 2 0) 0 };
+  closed = half (getD w 2 0) 1;
+  table = listed (entryOf w) 0 32;
 }
 
 -- A pair in two parts: what stands before the table, and the table.

@@ -11,7 +11,6 @@ use seq::FrameNo;
 use seq::TransNo;
 ghost use mathlib.Core.Path.{_≡_};
 ghost use Prim.Native.Nat.{_%_};
-ghost use lib.ListN.{getD};
 ghost use Rattle.host_words.specs.Words.{openOf, entryOf, pairOf};
 
 // So many words hold a pair.
@@ -30,50 +29,40 @@ pub struct Head {
     pub closed: u32,
 }
 
-// A word, and 0 past the end.
-fn word(w: &[u64], i: usize) -> u64
-    ensures { λ r. ⌜ r ≡ getD (now (w .entry)) i 0 ⌝ }
-{
-    if i < w.len() {
-        return w[i];
-    }
-    0
-}
-
 pub fn own(w: &[u64]) -> u16
     ensures { λ r. ⌜ r ≡ pairOf (now (w .entry)) .own ⌝ }
 {
-    (word(w, 0) % 65536) as u16
+    words::quarter(words::word(w, 0), 0)
 }
 
 pub fn peer(w: &[u64]) -> u16
     ensures { λ r. ⌜ r ≡ pairOf (now (w .entry)) .peer ⌝ }
 {
-    (word(w, 0) / 65536 % 65536) as u16
+    words::quarter(words::word(w, 0), 1)
 }
 
 pub fn next(w: &[u64]) -> FrameNo
     ensures { λ r. ⌜ r ≡ pairOf (now (w .entry)) .next ⌝ }
 {
-    FrameNo((word(w, 0) / 4294967296 % 65536) as u16)
+    FrameNo(words::quarter(words::word(w, 0), 2))
 }
 
 pub fn marks(w: &[u64]) -> u64
     ensures { λ r. ⌜ r ≡ pairOf (now (w .entry)) .marks ⌝ }
 {
-    word(w, 1)
+    words::word(w, 1)
 }
 
 pub fn lowest(w: &[u64]) -> TransNo
     ensures { λ r. ⌜ r ≡ pairOf (now (w .entry)) .lowest ⌝ }
 {
-    TransNo((word(w, 2) % 4294967296) as u32)
+    TransNo(words::half(words::word(w, 2), 0))
 }
 
 pub fn closed(w: &[u64]) -> u32
     ensures { λ r. ⌜ r ≡ pairOf (now (w .entry)) .closed ⌝ }
 {
-    (word(w, 2) / 4294967296 % 4294967296) as u32
+    words::half(words::word(w, 2), 1)
 }
 
 // The entry that two words hold.
@@ -81,10 +70,10 @@ pub fn open_of(terms: u64, counts: u64) -> Open
     ensures { λ r. ⌜ r ≡ openOf terms counts ⌝ }
 {
     Open {
-        address: (terms % 4294967296) as u32,
-        value: (terms / 4294967296 % 4294967296) as u32,
-        count: (counts % 65536) as u16,
-        received: (counts / 65536 % 65536) as u16,
+        address: words::half(terms, 0),
+        value: words::half(terms, 1),
+        count: words::quarter(counts, 0),
+        received: words::quarter(counts, 1),
     }
 }
 
@@ -93,7 +82,7 @@ pub fn entry(w: &[u64], number: u32) -> Open
     ensures { λ r. ⌜ r ≡ entryOf (now (w .entry)) (number % 32) ⌝ }
 {
     let s = (number % 32) as usize;
-    let terms = word(w, 3 + 2 * s);
-    let counts = word(w, 4 + 2 * s);
+    let terms = words::word(w, 3 + 2 * s);
+    let counts = words::word(w, 4 + 2 * s);
     open_of(terms, counts)
 }

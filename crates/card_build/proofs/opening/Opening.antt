@@ -4,21 +4,21 @@ use mathlib.Core.Path.{_≡_, refl, _∙_}
 use mathlib.Core.Logic.{_≢_}
 use mathlib.Core.List.{List}
 use Prim.Native.Nat.{ℕ, _+_, _*_, _/_, _%_, _≤_, _<_}
-use native.Mathlib.Nat.{not-suc-le-zero, div-eq-of-lt}
+use native.Mathlib.Nat.{not-suc-le-zero}
 use native.Mathlib.Decide.{decLt, ℕ-discrete}
 use native.Mathlib.Omega.{arith}
 use borrow.Author.Tests.{eq-eqb, ne-eqb}
 use lib.ListN.{length, getD, set, replicate, length-set}
 use lib.Seq.{getD-set-same, getD-set-other}
-use lib.Pow.{pow-pos}
+use Rattle.words.specs.Words.{listed}
+use Rattle.words.proofs.Words.{getD-out, part-none}
+use Rattle.words.proofs.Listed.{listed-all}
 use Rattle.card.specs.declared.Card.{Card}
 use Rattle.card.specs.Window.{emptyWindow}
 use Rattle.card.specs.Sendings.{noSending, noSendings}
 use Rattle.card.specs.Card.{freshCard, cardRefusal, openCard}
 use Rattle.card_words.specs.declared.Head.{Head}
-use Rattle.card_words.specs.Words.{listed, sizeIn, sendingIn, cardOf, withHead}
-use Rattle.card_words.proofs.Words.{getD-out}
-use Rattle.card_words.proofs.Listed.{listed-all}
+use Rattle.card_words.specs.Words.{sizeIn, sendingIn, cardOf, withHead}
 use Rattle.card_build.specs.Clearing.{Zeros}
 
 -- words of 0 are a card with nothing in it
@@ -28,13 +28,36 @@ blank-card w clear =
     let sizes : listed (sizeIn w) 0 64 ≡ replicate 64 0 = listed-all (sizeIn w) 0 64 0 no-size in
     let table : listed (sendingIn w) 0 32 ≡ replicate 32 noSending =
     listed-all (sendingIn w) noSending 32 0 no-sending in
-    rw (sizes, table, clear 0, clear 1, clear 2, clear 3, clear 4)
+    rw (
+      sizes,
+      table,
+      clear 0,
+      clear 1,
+      clear 2,
+      clear 3,
+      clear 4,
+      part-none 16 0,
+      part-none 16 1,
+      part-none 16 2,
+      part-none 16 3,
+      part-none 32 0,
+      part-none 32 1,
+    )
   where
     no-size : (k : ℕ) → sizeIn w k ≡ 0
-    no-size k = rw (clear (5 + k / 4), div-eq-of-lt (pow-pos (16 * (k % 4))))
+    no-size k = rw (clear (5 + k / 4)) (part-none 16 (k % 4))
 
     no-sending : (k : ℕ) → sendingIn w k ≡ noSending
-    no-sending k = rw (clear (21 + 2 * k), clear (22 + 2 * k))
+    no-sending k =
+        rw (
+          clear (21 + 2 * k),
+          clear (22 + 2 * k),
+          part-none 32 0,
+          part-none 32 1,
+          part-none 16 0,
+          part-none 16 1,
+          part-none 16 2,
+        )
 
 abbrev freshHead : ℕ → ℕ → ℕ → Head
 freshHead own peer limit = record {

@@ -6,13 +6,9 @@ use Rattle.card_words.proofs.head_of.Statement.{statement}
 use Rattle.card_words.proofs.head_of.Tie as tie
 use Rattle.card_words.proofs.head_of.Reads as reads
 use Rattle.card_words.proofs.head_of.Lts as lts
-use Rattle.card_words.proofs.first.Reads as first-reads
-use Rattle.card_words.proofs.fourth.Reads as fourth-reads
-use Rattle.card_words.proofs.high.Reads as high-reads
-use Rattle.card_words.proofs.low.Reads as low-reads
-use Rattle.card_words.proofs.second.Reads as second-reads
-use Rattle.card_words.proofs.third.Reads as third-reads
-use Rattle.card_words.proofs.word.Reads as word-reads
+use Rattle.words.proofs.half.Reads as half-reads
+use Rattle.words.proofs.quarter.Reads as quarter-reads
+use Rattle.words.proofs.word.Reads as word-reads
 
 word-requires : tie.Need-word-requires
 word-requires c κs = search needs
@@ -29,35 +25,35 @@ word-requires-4 c κs = search needs
 word-requires-5 : tie.Need-word-requires-5
 word-requires-5 c κs = search needs
 
-first-requires : tie.Need-first-requires
-first-requires c κs = search needs
+quarter-requires : tie.Need-quarter-requires
+quarter-requires c κs = search needs
 
-second-requires : tie.Need-second-requires
-second-requires c κs = search needs
+quarter-requires-2 : tie.Need-quarter-requires-2
+quarter-requires-2 c κs = search needs
 
-third-requires : tie.Need-third-requires
-third-requires c κs = search needs
+quarter-requires-3 : tie.Need-quarter-requires-3
+quarter-requires-3 c κs = search needs
 
-fourth-requires : tie.Need-fourth-requires
-fourth-requires c κs = search needs
+quarter-requires-4 : tie.Need-quarter-requires-4
+quarter-requires-4 c κs = search needs
 
-first-requires-2 : tie.Need-first-requires-2
-first-requires-2 c κs = search needs
+quarter-requires-5 : tie.Need-quarter-requires-5
+quarter-requires-5 c κs = search needs
 
-second-requires-2 : tie.Need-second-requires-2
-second-requires-2 c κs = search needs
+quarter-requires-6 : tie.Need-quarter-requires-6
+quarter-requires-6 c κs = search needs
 
-third-requires-2 : tie.Need-third-requires-2
-third-requires-2 c κs = search needs
+quarter-requires-7 : tie.Need-quarter-requires-7
+quarter-requires-7 c κs = search needs
 
-low-requires : tie.Need-low-requires
-low-requires c κs = search needs
+half-requires : tie.Need-half-requires
+half-requires c κs = search needs
 
-high-requires : tie.Need-high-requires
-high-requires c κs = search needs
+half-requires-2 : tie.Need-half-requires-2
+half-requires-2 c κs = search needs
 
-low-requires-2 : tie.Need-low-requires-2
-low-requires-2 c κs = search needs
+half-requires-3 : tie.Need-half-requires-3
+half-requires-3 c κs = search needs
 
 returns : tie.Need-returns
 unfolding cardOf
@@ -67,16 +63,16 @@ returns c =
     let i = s .before .before .before .before in
     let w = i .before in
     rw (
-      c .low2 .ensures,
-      c .before .high .ensures,
-      c .before .before .low .ensures,
-      n .third2 .ensures,
-      n .before .second2 .ensures,
-      n .before .before .first2 .ensures,
-      s .fourth .ensures,
-      s .before .third .ensures,
-      s .before .before .second .ensures,
-      s .before .before .before .first .ensures,
+      c .half3 .ensures,
+      c .before .half2 .ensures,
+      c .before .before .half .ensures,
+      n .quarter7 .ensures,
+      n .before .quarter6 .ensures,
+      n .before .before .quarter5 .ensures,
+      s .quarter4 .ensures,
+      s .before .quarter3 .ensures,
+      s .before .before .quarter2 .ensures,
+      s .before .before .before .quarter .ensures,
       i .word5 .ensures,
       w .word4 .ensures,
       w .before .word3 .ensures,
@@ -93,14 +89,14 @@ head-of-spec =
     word-requires-3
     word-requires-4
     word-requires-5
-    first-requires
-    second-requires
-    third-requires
-    fourth-requires
-    first-requires-2
-    second-requires-2
-    third-requires-2
-    low-requires
-    high-requires
-    low-requires-2
+    quarter-requires
+    quarter-requires-2
+    quarter-requires-3
+    quarter-requires-4
+    quarter-requires-5
+    quarter-requires-6
+    quarter-requires-7
+    half-requires
+    half-requires-2
+    half-requires-3
     returns)

@@ -7,12 +7,9 @@ use Rattle.card_words.proofs.sending_at.Statement.{statement}
 use Rattle.card_words.proofs.sending_at.Tie as tie
 use Rattle.card_words.proofs.sending_at.Reads as reads
 use Rattle.card_words.proofs.sending_at.Lts as lts
-use Rattle.card_words.proofs.first.Reads as first-reads
-use Rattle.card_words.proofs.high.Reads as high-reads
-use Rattle.card_words.proofs.low.Reads as low-reads
-use Rattle.card_words.proofs.second.Reads as second-reads
-use Rattle.card_words.proofs.third.Reads as third-reads
-use Rattle.card_words.proofs.word.Reads as word-reads
+use Rattle.words.proofs.half.Reads as half-reads
+use Rattle.words.proofs.quarter.Reads as quarter-reads
+use Rattle.words.proofs.word.Reads as word-reads
 
 cast-k : tie.Need-cast-k
 cast-k c = search needs
@@ -35,20 +32,20 @@ add-word-2 c = search needs
 word-requires-2 : tie.Need-word-requires-2
 word-requires-2 c κs = search needs
 
-low-requires : tie.Need-low-requires
-low-requires c κs = search needs
+half-requires : tie.Need-half-requires
+half-requires c κs = search needs
 
-high-requires : tie.Need-high-requires
-high-requires c κs = search needs
+half-requires-2 : tie.Need-half-requires-2
+half-requires-2 c κs = search needs
 
-first-requires : tie.Need-first-requires
-first-requires c κs = search needs
+quarter-requires : tie.Need-quarter-requires
+quarter-requires c κs = search needs
 
-second-requires : tie.Need-second-requires
-second-requires c κs = search needs
+quarter-requires-2 : tie.Need-quarter-requires-2
+quarter-requires-2 c κs = search needs
 
-third-requires : tie.Need-third-requires
-third-requires c κs = search needs
+quarter-requires-3 : tie.Need-quarter-requires-3
+quarter-requires-3 c κs = search needs
 
 returns : tie.Need-returns
 returns c =
@@ -56,11 +53,11 @@ returns c =
     let s = h .before .before in
     let a = s .before .before .before .before .args in
     rw (
-      c .third .ensures,
-      c .before .second .ensures,
-      c .before .before .first .ensures,
-      h .high .ensures,
-      h .before .low .ensures,
+      c .quarter3 .ensures,
+      c .before .quarter2 .ensures,
+      c .before .before .quarter .ensures,
+      h .half2 .ensures,
+      h .before .half .ensures,
       s .word2 .ensures,
       s .before .word .ensures,
     )
@@ -77,9 +74,9 @@ sending-at-spec =
     mul-word-2
     add-word-2
     word-requires-2
-    low-requires
-    high-requires
-    first-requires
-    second-requires
-    third-requires
+    half-requires
+    half-requires-2
+    quarter-requires
+    quarter-requires-2
+    quarter-requires-3
     returns)

@@ -7,8 +7,8 @@ use Rattle.card_words.proofs.size_at.Statement.{statement}
 use Rattle.card_words.proofs.size_at.Tie as tie
 use Rattle.card_words.proofs.size_at.Reads as reads
 use Rattle.card_words.proofs.size_at.Lts as lts
-use Rattle.card_words.proofs.quarter.Reads as quarter-reads
-use Rattle.card_words.proofs.word.Reads as word-reads
+use Rattle.words.proofs.quarter.Reads as quarter-reads
+use Rattle.words.proofs.word.Reads as word-reads
 
 cast-word : tie.Need-cast-word
 cast-word c = search needs

@@ -9,12 +9,12 @@ use native.Mathlib.Decide.{ℕ-discrete}
 use native.Mathlib.Omega.{arith}
 use lib.ListN.{length, getD, set, length-set}
 use lib.Seq.{sets, getD-set-same, getD-set-other}
+use Rattle.words.specs.Words.{withQuarter, listed}
+use Rattle.words.proofs.Words.{Quartered, Halved, part-same, part-other}
+use Rattle.words.proofs.Listed.{listed-same, listed-set}
 use Rattle.card.specs.declared.Sending.{Sending}
 use Rattle.card_words.specs.declared.Head.{Head}
-use Rattle.card_words.specs.Words.{listed, sizeIn, sendingBy, sendingIn, cardOf, withHead, withSize, withSending}
-use Rattle.card_words.proofs.Listed.{listed-same, listed-set}
-use Rattle.card_words.specs.Storing.{Quartered, Halved, withQuarter}
-use Rattle.card_words.proofs.store.Numbers.{quarter-same, quarter-other}
+use Rattle.card_words.specs.Words.{sizeIn, sendingBy, sendingIn, cardOf, withHead, withSize, withSending}
 
 -- ---- a run of stores
 
@@ -60,7 +60,7 @@ module _ (w : List ℕ) (n v : ℕ) (long : length w ≡ 85) (fits : v < 65536) 
   size-here : sizeIn resized (n % 64) ≡ v
   size-here =
       rw (getD-set-same w at (withQuarter (getD w at 0) (n % 64 % 4) v) 0 (omega arith))
-      (quarter-same (getD w at 0) (n % 64 % 4) v fits (omega arith))
+      (part-same 16 4 (getD w at 0) (n % 64 % 4) v (omega arith) fits)
 
   size-there : (k : ℕ) → k ≢ n % 64 → sizeIn resized k ≡ sizeIn w k
   size-there k ne = go (ℕ-discrete (5 + k / 4) at)
@@ -70,7 +70,7 @@ module _ (w : List ℕ) (n v : ℕ) (long : length w ≡ 85) (fits : v < 65536) 
       go (yes q) =
           let other : k % 4 ≢ n % 64 % 4 = λ e. ne (omega arith) in
           rw (q, getD-set-same w at (withQuarter (getD w at 0) (n % 64 % 4) v) 0 (omega arith))
-          (quarter-other (getD w at 0) (n % 64 % 4) v (k % 4) fits (omega arith) (omega arith) other)
+          (part-other 16 4 (getD w at 0) (n % 64 % 4) v (k % 4) (omega arith) fits other)
 
   head-there : (k : ℕ) → k < 5 → getD resized k 0 ≡ getD w k 0
   head-there k h = getD-set-other w at k _ 0 (λ e. omega arith)
@@ -98,7 +98,7 @@ module _ (w : List ℕ) (n v : ℕ) (long : length w ≡ 85) (fits : v < 65536) 
 pub sending-by : (a b : ℕ) (e : Sending) → Halved a (e .address) (e .value)
     → Quartered b (e .count) (e .added) (e .frame .0) 0
     → sendingBy a b ≡ e
-sending-by a b e h q = rw (h .low, h .high, q .first, q .second, q .third)
+sending-by a b e h q = rw (h .first, h .second, q .first, q .second, q .third)
 
 module _ (w : List ℕ) (t a b : ℕ) (long : length w ≡ 85) where
   abbrev entry : ℕ
@@ -186,7 +186,7 @@ module _ (w : List ℕ) (h : Head) (ids frames numbers fin : ℕ) (long : length
         f .first,
         f .second,
         f .third,
-        n .low,
-        n .high,
-        d .low,
+        n .first,
+        n .second,
+        d .first,
       )

@@ -6,7 +6,7 @@ use Rattle.host_words.proofs.entry.Tie as tie
 use Rattle.host_words.proofs.entry.Reads as reads
 use Rattle.host_words.proofs.entry.Lts as lts
 use Rattle.host_words.proofs.open_of.Reads as open-of-reads
-use Rattle.host_words.proofs.word.Reads as word-reads
+use Rattle.words.proofs.word.Reads as word-reads
 
 cast-s : tie.Need-cast-s
 cast-s c = search needs

@@ -6,7 +6,7 @@ use Rattle.host_words.proofs.marks.Statement.{statement}
 use Rattle.host_words.proofs.marks.Tie as tie
 use Rattle.host_words.proofs.marks.Reads as reads
 use Rattle.host_words.proofs.marks.Lts as lts
-use Rattle.host_words.proofs.word.Reads as word-reads
+use Rattle.words.proofs.word.Reads as word-reads
 
 word-requires : tie.Need-word-requires
 word-requires c κs = search needs

@@ -5,21 +5,30 @@ use Rattle.host_words.proofs.open_of.Statement.{statement}
 use Rattle.host_words.proofs.open_of.Tie as tie
 use Rattle.host_words.proofs.open_of.Reads as reads
 use Rattle.host_words.proofs.open_of.Lts as lts
+use Rattle.words.proofs.half.Reads as half-reads
+use Rattle.words.proofs.quarter.Reads as quarter-reads
 
-cast-t4 : tie.Need-cast-t4
-cast-t4 c = search needs
+half-requires : tie.Need-half-requires
+half-requires c κs = search needs
 
-cast-t7 : tie.Need-cast-t7
-cast-t7 c = search needs
+half-requires-2 : tie.Need-half-requires-2
+half-requires-2 c κs = search needs
 
-cast-t9 : tie.Need-cast-t9
-cast-t9 c = search needs
+quarter-requires : tie.Need-quarter-requires
+quarter-requires c κs = search needs
 
-cast-t12 : tie.Need-cast-t12
-cast-t12 c = search needs
+quarter-requires-2 : tie.Need-quarter-requires-2
+quarter-requires-2 c κs = search needs
 
 returns : tie.Need-returns
-returns c = search needs
+returns c =
+    rw (
+      c .before .before .before .half .ensures,
+      c .before .before .half2 .ensures,
+      c .before .quarter .ensures,
+      c .quarter2 .ensures,
+    )
 
 pub open-of-spec : {M : Type 1} → statement M
-open-of-spec = tie.close (tie.spec cast-t4 cast-t7 cast-t9 cast-t12 returns)
+open-of-spec =
+    tie.close (tie.spec half-requires half-requires-2 quarter-requires quarter-requires-2 returns)

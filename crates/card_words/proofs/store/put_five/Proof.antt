@@ -5,7 +5,7 @@ use Rattle.card_words.proofs.store.put_five.Statement.{statement}
 use Rattle.card_words.proofs.store.put_five.Tie as tie
 use Rattle.card_words.proofs.store.put_five.Reads as reads
 use Rattle.card_words.proofs.store.put_five.Lts as lts
-use Rattle.card_words.proofs.store.put.Reads as put-reads
+use Rattle.words.proofs.put.Reads as put-reads
 
 put-requires : tie.Need-put-requires
 put-requires c κs = search needs

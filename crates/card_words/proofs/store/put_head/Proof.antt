@@ -1,30 +1,32 @@
 -- `put_head`: five words, and the others stay.
 -- Assumes nothing.
 use mathlib.Core.Path.{refl}
+use native.Mathlib.Omega.{arith}
+use Rattle.words.proofs.Words.{quartered, halved}
 use Rattle.card_words.proofs.store.Words.{headed-card}
 use borrow.Author.Needs.{needs}
 use Rattle.card_words.proofs.store.put_head.Statement.{statement}
 use Rattle.card_words.proofs.store.put_head.Tie as tie
 use Rattle.card_words.proofs.store.put_head.Reads as reads
 use Rattle.card_words.proofs.store.put_head.Lts as lts
-use Rattle.card_words.proofs.store.four.Reads as four-reads
 use Rattle.card_words.proofs.store.put_five.Reads as put-five-reads
-use Rattle.card_words.proofs.store.two.Reads as two-reads
+use Rattle.words.proofs.of_halves.Reads as of-halves-reads
+use Rattle.words.proofs.of_quarters.Reads as of-quarters-reads
 
 returns : tie.Need-returns
 returns c = (λ l. absurd (c .if1 .taken l), λ n. refl)
 
-four-requires : tie.Need-four-requires
-four-requires c κs = search needs
+of-quarters-requires : tie.Need-of-quarters-requires
+of-quarters-requires c κs = search needs
 
-four-requires-2 : tie.Need-four-requires-2
-four-requires-2 c κs = search needs
+of-quarters-requires-2 : tie.Need-of-quarters-requires-2
+of-quarters-requires-2 c κs = search needs
 
-two-requires : tie.Need-two-requires
-two-requires c κs = search needs
+of-halves-requires : tie.Need-of-halves-requires
+of-halves-requires c κs = search needs
 
-two-requires-2 : tie.Need-two-requires-2
-two-requires-2 c κs = search needs
+of-halves-requires-2 : tie.Need-of-halves-requires-2
+of-halves-requires-2 c κs = search needs
 
 put-five-requires : tie.Need-put-five-requires
 put-five-requires c κs = search needs
@@ -37,11 +39,23 @@ returns-2 c =
     let s = c .before .before in
     let m = s .before .before in
     let f = m .before .before in
-    let a = f .before .before .before .before .args in (
-      λ l. rw (s .put-five .ensures)
-          (headed-card (a .w .now) (a .h) _ _ _ _ l (f .before .four .ensures .1) (f .four2 .ensures .1)
-          (m .before .two .ensures)
-          (m .two2 .ensures)),
+    let start = f .before .before .before .before in
+    let a = start .args in
+    let g = start .good .1 in (
+      λ l. rw (
+        s .put-five .ensures,
+        f .before .of-quarters .ensures,
+        f .of-quarters2 .ensures,
+        m .before .of-halves .ensures,
+        m .of-halves2 .ensures,
+      )
+          (headed-card (a .w .now) (a .h) _ _ _ _ l
+          (quartered (a .h .own) (a .h .peer) (a .h .limit) (a .h .used) (omega (arith, g)) (omega (arith, g))
+          (omega (arith, g)) (omega (arith, g)))
+          (quartered (a .h .last) (a .h .next .0) (a .h .base .0) 0 (omega (arith, g)) (omega (arith, g))
+          (omega (arith, g)) (omega arith))
+          (halved (a .h .upcoming .0) (a .h .lowest .0) (omega (arith, g)) (omega (arith, g)))
+          (halved (a .h .finished) 0 (omega (arith, g)) (omega arith))),
       λ n. absurd (n (f .before .before .if1 .left)),
     )
 
@@ -50,10 +64,10 @@ put-head-spec =
     tie.close
     (tie.spec
     returns
-    four-requires
-    four-requires-2
-    two-requires
-    two-requires-2
+    of-quarters-requires
+    of-quarters-requires-2
+    of-halves-requires
+    of-halves-requires-2
     put-five-requires
     same-length
     returns-2)

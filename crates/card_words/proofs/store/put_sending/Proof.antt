@@ -1,15 +1,17 @@
 -- `put_sending`: the two words of the transaction, and the others stay.
 -- Assumes nothing.
 use mathlib.Core.Path.{refl}
+use native.Mathlib.Omega.{arith}
+use Rattle.words.proofs.Words.{quartered, halved}
 use Rattle.card_words.proofs.store.Words.{entered-card, sending-by}
 use borrow.Author.Needs.{needs}
 use Rattle.card_words.proofs.store.put_sending.Statement.{statement}
 use Rattle.card_words.proofs.store.put_sending.Tie as tie
 use Rattle.card_words.proofs.store.put_sending.Reads as reads
 use Rattle.card_words.proofs.store.put_sending.Lts as lts
-use Rattle.card_words.proofs.store.four.Reads as four-reads
-use Rattle.card_words.proofs.store.put.Reads as put-reads
-use Rattle.card_words.proofs.store.two.Reads as two-reads
+use Rattle.words.proofs.of_halves.Reads as of-halves-reads
+use Rattle.words.proofs.of_quarters.Reads as of-quarters-reads
+use Rattle.words.proofs.put.Reads as put-reads
 
 returns : tie.Need-returns
 returns c = (λ l. absurd (c .if1 .taken l), λ n. refl)
@@ -17,11 +19,11 @@ returns c = (λ l. absurd (c .if1 .taken l), λ n. refl)
 cast-k : tie.Need-cast-k
 cast-k c = search needs
 
-two-requires : tie.Need-two-requires
-two-requires c κs = search needs
+of-halves-requires : tie.Need-of-halves-requires
+of-halves-requires c κs = search needs
 
-four-requires : tie.Need-four-requires
-four-requires c κs = search needs
+of-quarters-requires : tie.Need-of-quarters-requires
+of-quarters-requires c κs = search needs
 
 mul-put : tie.Need-mul-put
 mul-put c = search needs
@@ -49,10 +51,15 @@ returns-2 c =
     let last = c .before .before in
     let one = last .before .before .before .before in
     let m = one .before .before in
-    let a = m .before .before .before .before .before .args in (
-      λ l. rw (last .put2 .ensures, one .put .ensures)
+    let start = m .before .before .before .before .before in
+    let a = start .args in
+    let g = start .good .1 .1 in (
+      λ l. rw (last .put2 .ensures, one .put .ensures, m .of-quarters .ensures, m .before .of-halves .ensures)
           (entered-card (a .w .now) (a .t .0) _ _ l (a .e)
-          (sending-by _ _ (a .e) (m .before .two .ensures) (m .four .ensures .1))),
+          (sending-by _ _ (a .e)
+          (halved (a .e .address) (a .e .value) (omega (arith, g)) (omega (arith, g)))
+          (quartered (a .e .count) (a .e .added) (a .e .frame .0) 0 (omega (arith, g)) (omega (arith, g))
+          (omega (arith, g)) (omega arith)))),
       λ n. absurd (n (m .before .before .before .if1 .left)),
     )
 
@@ -62,8 +69,8 @@ put-sending-spec =
     (tie.spec
     returns
     cast-k
-    two-requires
-    four-requires
+    of-halves-requires
+    of-quarters-requires
     mul-put
     add-put
     put-requires

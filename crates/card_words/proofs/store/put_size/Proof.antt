@@ -7,9 +7,9 @@ use Rattle.card_words.proofs.store.put_size.Statement.{statement}
 use Rattle.card_words.proofs.store.put_size.Tie as tie
 use Rattle.card_words.proofs.store.put_size.Reads as reads
 use Rattle.card_words.proofs.store.put_size.Lts as lts
-use Rattle.card_words.proofs.store.put.Reads as put-reads
-use Rattle.card_words.proofs.store.with_quarter.Reads as with-quarter-reads
-use Rattle.card_words.proofs.word.Reads as word-reads
+use Rattle.words.proofs.put.Reads as put-reads
+use Rattle.words.proofs.with_quarter.Reads as with-quarter-reads
+use Rattle.words.proofs.word.Reads as word-reads
 
 returns : tie.Need-returns
 returns c = (λ l. absurd (c .if1 .taken l), λ n. refl)

@@ -10,34 +10,18 @@ use Rattle.host_words.proofs.update.put_entry.Statement.{statement}
 use Rattle.host_words.proofs.update.put_entry.Tie as tie
 use Rattle.host_words.proofs.update.put_entry.Reads as reads
 use Rattle.host_words.proofs.update.put_entry.Lts as lts
-use Rattle.host_words.proofs.update.put.Reads as put-reads
+use Rattle.words.proofs.of_halves.Reads as of-halves-reads
+use Rattle.words.proofs.of_quarters.Reads as of-quarters-reads
+use Rattle.words.proofs.put.Reads as put-reads
 
 cast-s : tie.Need-cast-s
 cast-s c = search needs
 
-cast-terms : tie.Need-cast-terms
-cast-terms c = search needs
+of-halves-requires : tie.Need-of-halves-requires
+of-halves-requires c κs = search needs
 
-cast-terms-2 : tie.Need-cast-terms-2
-cast-terms-2 c = search needs
-
-mul-terms : tie.Need-mul-terms
-mul-terms c = search needs
-
-add-terms : tie.Need-add-terms
-add-terms c = search needs
-
-cast-counts : tie.Need-cast-counts
-cast-counts c = search needs
-
-cast-counts-2 : tie.Need-cast-counts-2
-cast-counts-2 c = search needs
-
-mul-counts : tie.Need-mul-counts
-mul-counts c = search needs
-
-add-counts : tie.Need-add-counts
-add-counts c = search needs
+of-quarters-requires : tie.Need-of-quarters-requires
+of-quarters-requires c κs = search needs
 
 mul-put : tie.Need-mul-put
 mul-put c = search needs
@@ -63,14 +47,19 @@ same-length c = search needs
 returns : tie.Need-returns
 unfolding withEntry
 returns c =
-    let first = c .before .before .before .before .before .before in
-    let a = first .before .before .before .before .before .before .before .args in
-    let e : c .before .before .put2 .last .0 ≡ withEntry (a .w .now) (a .number % 32) (a .o) =
-    c .before .before .put2 .ensures ∙ rw (first .put .ensures) in (
+    let last = c .before .before in
+    let first = last .before .before .before .before in
+    let made = first .before .before in
+    let start = made .before .before .before in
+    let a = start .args in
+    let g = start .good .1 in
+    let e : last .put2 .last .0 ≡ withEntry (a .w .now) (a .number % 32) (a .o) =
+    last .put2 .ensures
+    ∙ rw (first .put .ensures, made .of-quarters .ensures, made .before .of-halves .ensures) in (
       e,
       λ l. rw e
-          (holds-entry (a .w .now) (a .number % 32) (a .o) (omega arith) (search needs) (search needs) (search needs)
-          (search needs) l),
+          (holds-entry (a .w .now) (a .number % 32) (a .o) (omega arith) (omega (arith, g)) (omega (arith, g)) (omega (arith, g))
+          (omega (arith, g)) l),
     )
 
 pub put-entry-spec : {M : Type 1} → statement M
@@ -78,14 +67,8 @@ put-entry-spec =
     tie.close
     (tie.spec
     cast-s
-    cast-terms
-    cast-terms-2
-    mul-terms
-    add-terms
-    cast-counts
-    cast-counts-2
-    mul-counts
-    add-counts
+    of-halves-requires
+    of-quarters-requires
     mul-put
     add-put
     put-requires

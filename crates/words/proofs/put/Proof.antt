@@ -1,12 +1,12 @@
--- `host_words::update::put`: past the end nothing is stored.
+-- `words::put`: the store, or none where there is no such word.
 -- Assumes nothing.
 use mathlib.Core.Path.{sym}
 use lib.Seq.{set-out}
 use borrow.Author.Needs.{needs}
-use Rattle.host_words.proofs.update.put.Statement.{statement}
-use Rattle.host_words.proofs.update.put.Tie as tie
-use Rattle.host_words.proofs.update.put.Reads as reads
-use Rattle.host_words.proofs.update.put.Lts as lts
+use Rattle.words.proofs.put.Statement.{statement}
+use Rattle.words.proofs.put.Tie as tie
+use Rattle.words.proofs.put.Reads as reads
+use Rattle.words.proofs.put.Lts as lts
 
 mul-w : tie.Need-mul-w
 mul-w c = search needs

@@ -2,11 +2,17 @@
 -- Assumes nothing.
 use mathlib.Core.Path.{_≡_, refl, _∙_, ap}
 use mathlib.Core.Logic.{_≢_}
+use mathlib.Core.List.{List, [], _∷_}
 use Prim.Native.Nat.{ℕ, zero, suc, _+_, _≤_, _<_}
 use native.Mathlib.Nat.{not-suc-le-zero}
 use native.Mathlib.Omega.{arith}
-use lib.ListN.{getD, set, replicate}
-use Rattle.card_words.specs.Words.{listed}
+use lib.ListN.{length, getD, set, replicate}
+use Rattle.words.specs.Words.{listed}
+
+pub length-listed : {A : Type 0} (f : ℕ → A) (k n : ℕ) → length (listed f k n) ≡ n
+unfolding listed
+length-listed f k zero = refl
+length-listed f k (suc n) = ap suc (length-listed f (suc k) n)
 
 pub listed-at : {A : Type 0} (f : ℕ → A) (d : A) (n k j : ℕ) → j < n → getD (listed f k n) j d ≡ f (k + j)
 unfolding listed
@@ -24,6 +30,19 @@ listed-same f g (suc n) k h =
     let rest : listed g (suc k) n ≡ listed f (suc k) n =
     listed-same f g n (suc k) (λ j l m. h j (omega arith) (omega arith)) in
     rw (h k (omega arith) (omega arith), rest)
+
+-- a list is known element by element
+pub listed-is : {A : Type 0} (f : ℕ → A) (d : A) (n k : ℕ) (l : List A) → length l ≡ n
+    → ((j : ℕ) → j < n → getD l j d ≡ f (k + j)) → l ≡ listed f k n
+unfolding listed
+listed-is f d zero k [] e h = refl
+listed-is f d zero k (x ∷ xs) e h = absurd (omega arith)
+listed-is f d (suc n) k [] e h = absurd (omega arith)
+listed-is f d (suc n) k (x ∷ xs) e h =
+    let first : x ≡ f k = h 0 (omega arith) ∙ ap f (omega arith) in
+    let rest : xs ≡ listed f (suc k) n =
+    listed-is f d n (suc k) xs (omega arith) (λ j l. h (suc j) (omega arith) ∙ ap f (omega arith)) in
+    rw (first, rest)
 
 -- one element is another
 listed-put : {A : Type 0} (f g : ℕ → A) (v : A) (n k s : ℕ) → s < n → g (k + s) ≡ v

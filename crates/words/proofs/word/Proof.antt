@@ -1,12 +1,12 @@
--- `word`: the word, or 0 where there is none.
+-- `words::word`: the word, or 0 where there is none.
 -- Assumes nothing.
 use mathlib.Core.Path.{sym}
-use Rattle.card_words.proofs.Words.{getD-out}
+use Rattle.words.proofs.Words.{getD-out}
 use borrow.Author.Needs.{needs}
-use Rattle.card_words.proofs.word.Statement.{statement}
-use Rattle.card_words.proofs.word.Tie as tie
-use Rattle.card_words.proofs.word.Reads as reads
-use Rattle.card_words.proofs.word.Lts as lts
+use Rattle.words.proofs.word.Statement.{statement}
+use Rattle.words.proofs.word.Tie as tie
+use Rattle.words.proofs.word.Reads as reads
+use Rattle.words.proofs.word.Lts as lts
 
 mul-result : tie.Need-mul-result
 mul-result c = search needs
