@@ -277,6 +277,16 @@ uint32_t lw_raw_card_show(const lw_card *card, const uint8_t *slots, size_t size
 uint32_t lw_raw_card_choose(const lw_card *card, const uint8_t *slots, size_t size,
                             const uint8_t *acknowledgement, size_t length, uint64_t part[3]);
 
+/* As lw_raw_host_open, lw_raw_host_receive and lw_raw_host_acknowledge, with the pair as
+ * a value between unpacking and packing the words. Nothing further below passes on to
+ * these: they are for tests. */
+uint32_t lw_raw_host_open_by_value(lw_host *host, uint16_t own, uint16_t peer);
+uint32_t lw_raw_host_receive_by_value(lw_host *host, const uint8_t *frame, size_t length,
+                                      uint8_t *memory, size_t size, lw_answer *answer);
+uint32_t lw_raw_host_acknowledge_by_value(const lw_host *host, const lw_answer *answer,
+                                          uint16_t number,
+                                          uint8_t acknowledgement[LW_ACKNOWLEDGEMENT]);
+
 void lw_raw_replay_open(uint64_t place[LW_REPLAY_WORDS], uint64_t host[LW_HOST_WORDS],
                         uint8_t memory[LW_REPLAY_MEMORY]);
 uint32_t lw_raw_replay_feed(uint64_t place[LW_REPLAY_WORDS], uint64_t host[LW_HOST_WORDS],

@@ -2,5 +2,6 @@
 // byte slices and lent words, assume nothing of them, and promise what the face promises.
 pub mod card_end;
 pub mod frame;
+pub mod host_by_value;
 pub mod host_end;
 pub mod replaying;

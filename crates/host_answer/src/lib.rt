@@ -122,7 +122,7 @@ pub fn acknowledge_in_place(words: &[u64], answer: Answer, number: FrameNo) -> A
 }
 
 // What an answer's kind, number and run call for an acknowledgement by.
-fn answer_of(kind: u64, answered: u64, run: u64) -> Answer
+pub fn answer_of(kind: u64, answered: u64, run: u64) -> Answer
     ensures { λ r. ⌜ r ≡ answerOf kind answered run ⌝ }
 {
     if kind == 1 {

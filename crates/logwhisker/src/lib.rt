@@ -14,6 +14,7 @@ pub use card_send::show::Part;
 pub use card_send::show::Showing;
 pub use host::Acknowledgement;
 pub use host::Answer;
+pub use host::Opened;
 pub use host::Pair;
 pub use host::Stepped;
 pub use host_answer::kind_of;
@@ -138,6 +139,13 @@ pub fn restore_host(words: &mut [u64; 67], text: &[u8]) -> u8
 }
 
 // ---- the host by value
+
+// Opens a host as a value; 13 where an ID is 0, and then the pair is a fresh one with both IDs 0.
+pub fn open_host_by_value(own: u16, peer: u16) -> Opened
+    ensures { λ r. ⌜ r ≡ hostOpened own peer ⌝ }
+{
+    pair::open_pair(own, peer)
+}
 
 // Receives a frame with the pair as a value, which comes back with the answer.
 pub fn receive_by_value(pair: Pair, frame: &[u8], memory: &mut [u8]) -> Stepped

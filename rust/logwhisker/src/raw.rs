@@ -62,6 +62,21 @@ mod exported {
             number: u16,
             frame: *mut u8,
         ) -> u32;
+        pub fn lw_raw_host_open_by_value(words: *mut u64, own: u16, peer: u16) -> u32;
+        pub fn lw_raw_host_receive_by_value(
+            words: *mut u64,
+            frame: *const u8,
+            length: usize,
+            memory: *mut u8,
+            size: usize,
+            answer: *mut u64,
+        ) -> u32;
+        pub fn lw_raw_host_acknowledge_by_value(
+            words: *const u64,
+            answer: *const u64,
+            number: u16,
+            frame: *mut u8,
+        ) -> u32;
         pub fn lw_raw_host_describe(words: *const u64, description: *mut u64);
         pub fn lw_raw_host_store(
             words: *const u64,
@@ -218,6 +233,51 @@ pub fn host_acknowledge(
 ) -> u32 {
     unsafe {
         exported::lw_raw_host_acknowledge(
+            words.as_ptr(),
+            answer.as_ptr(),
+            number,
+            frame.as_mut_ptr(),
+        )
+    }
+}
+
+/// As [`host_open`], with the pair opened as a value and packed into the words.
+#[inline]
+pub fn host_open_by_value(words: &mut [u64; HOST_WORDS], own: u16, peer: u16) -> u32 {
+    unsafe { exported::lw_raw_host_open_by_value(words.as_mut_ptr(), own, peer) }
+}
+
+/// As [`host_receive`], with the pair unpacked from the words, received by value, and packed
+/// where the frame is accepted.
+#[inline]
+pub fn host_receive_by_value(
+    words: &mut [u64; HOST_WORDS],
+    frame: &[u8],
+    memory: &mut [u8],
+    answer: &mut [u64; ANSWER_WORDS],
+) -> u32 {
+    unsafe {
+        exported::lw_raw_host_receive_by_value(
+            words.as_mut_ptr(),
+            frame.as_ptr(),
+            frame.len(),
+            memory.as_mut_ptr(),
+            memory.len(),
+            answer.as_mut_ptr(),
+        )
+    }
+}
+
+/// As [`host_acknowledge`], from the pair unpacked from the words.
+#[inline]
+pub fn host_acknowledge_by_value(
+    words: &[u64; HOST_WORDS],
+    answer: &[u64; ANSWER_WORDS],
+    number: u16,
+    frame: &mut [u8; 10],
+) -> u32 {
+    unsafe {
+        exported::lw_raw_host_acknowledge_by_value(
             words.as_ptr(),
             answer.as_ptr(),
             number,

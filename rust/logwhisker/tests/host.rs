@@ -1,8 +1,8 @@
-//! Compares the proved host with the independent one through the exported functions: after
-//! every frame the answer, the acknowledgement, memory, the description and the state, in
-//! states that runs reach and in any others. `LW_SEED` and `LW_FRAMES` choose the seed and
-//! the number of generated frames; a difference is shown with the seed, the run and the
-//! frame.
+//! Compares the proved host, in place and by value, with the independent one through the
+//! exported functions: after every frame the answer, the acknowledgement, memory, the
+//! description and the state, in states that runs reach and in any others. `LW_SEED` and
+//! `LW_FRAMES` choose the seed and the number of generated frames; a difference is shown
+//! with the seed, the run and the frame.
 
 #[path = "both/host.rs"]
 mod both;
@@ -10,9 +10,9 @@ mod both;
 #[allow(dead_code)]
 mod faulty_host;
 
-use both::Both;
+use both::{Both, acknowledged, acknowledged_by_value};
 use faulty_host::{Fault, Faulty, Seen};
-use logwhisker::raw::{self, ANSWER_WORDS, HOST_WORDS};
+use logwhisker::raw::{ANSWER_WORDS, HOST_WORDS};
 use logwhisker::{Answer as Answered, Host as Proved, Refusal};
 use reference::cases::{WHOLE_CASE, WHOLE_CASE_ACKNOWLEDGEMENT};
 use reference::host::{Answer, Host};
@@ -541,11 +541,15 @@ fn any_answer_is_acknowledged_alike() {
             1 | 2 => host.acknowledgement(again, number),
             _ => None,
         };
-        let mut frame = [0x5a; 10];
-        let got = raw::host_acknowledge(&words, &answer, number, &mut frame);
-        assert_eq!(got, u32::from(expected.is_some()), "{answer:x?}");
-        assert_eq!(frame, expected.unwrap_or([0x5a; 10]), "{answer:x?}");
-        due += got;
+        let expected = (
+            u32::from(expected.is_some()),
+            expected.unwrap_or([0xa5; 10]),
+        );
+        let got = acknowledged(&words, &answer, number);
+        assert_eq!(got, expected, "{answer:x?}");
+        let got = acknowledged_by_value(&words, &answer, number);
+        assert_eq!(got, expected, "by value: {answer:x?}");
+        due += got.0;
     }
     assert!(due > 30_000 && no_run > 10_000, "{due}, {no_run}");
 }

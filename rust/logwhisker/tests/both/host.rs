@@ -1,8 +1,11 @@
-//! The proved host and the plain one beside the independent one: after every call its
-//! answer, the acknowledgement, memory, description and state are compared.
+//! The proved host in place, the same by value and the plain one beside the independent
+//! one: after every call its answer, the acknowledgement, memory, description and state are
+//! compared.
 
+mod by_value;
 mod plain;
 
+use by_value::ByValue;
 use logwhisker::raw::{self, ANSWER_WORDS, DESCRIPTION_WORDS, HOST_WORDS};
 use plain::Plain;
 use reference::host::{Answer, Host};
@@ -25,6 +28,7 @@ fn named(words: &[u64; HOST_WORDS]) -> [u64; HOST_WORDS] {
 /// The hosts, and the memory of each.
 pub struct Both {
     words: [u64; HOST_WORDS],
+    by_value: ByValue,
     plain: Plain,
     /// With a margin on both sides.
     lent: Vec<u8>,
@@ -39,23 +43,33 @@ impl Both {
         let got = raw::host_open(&mut words, own, peer);
         let (reference, refusal) = Host::open(own, peer);
         assert_eq!(got, refusal.unwrap_or(0).into(), "opening {own}, {peer}");
-        let both = Both::new(words, Plain::open(own, peer, memory), reference, memory);
+        let by_value = ByValue::open(own, peer, memory);
+        let plain = Plain::open(own, peer, memory);
+        let both = Both::new(words, by_value, plain, reference, memory);
         both.compare_state(&|| format!("opening {own}, {peer}"));
         both
     }
 
     /// Both in the state that these words are.
     pub fn from_words(words: [u64; HOST_WORDS], memory: &[u8]) -> Both {
+        let by_value = ByValue::from_words(&words, memory);
         let plain = Plain::from_words(&words, memory);
-        let both = Both::new(words, plain, Host::from_words(&words), memory);
+        let both = Both::new(words, by_value, plain, Host::from_words(&words), memory);
         both.compare_state(&|| format!("{words:x?}"));
         both
     }
 
-    fn new(words: [u64; HOST_WORDS], plain: Plain, reference: Host, memory: &[u8]) -> Both {
+    fn new(
+        words: [u64; HOST_WORDS],
+        by_value: ByValue,
+        plain: Plain,
+        reference: Host,
+        memory: &[u8],
+    ) -> Both {
         let margin = [0xa5; MARGIN];
         Both {
             words,
+            by_value,
             plain,
             lent: [&margin[..], memory, &margin].concat(),
             reference,
@@ -74,6 +88,7 @@ impl Both {
         let expected = self.reference.receive(frame, &mut self.memory);
         assert_eq!(answer, answer_words(expected), "{expected:?}: {}", name());
         assert_eq!(u64::from(kind), answer[0], "kind: {}", name());
+        self.by_value.receive(frame, &answer, &self.memory, name);
         self.plain.receive(frame, &answer, &self.memory, name);
         let at = self.lent[MARGIN..end]
             .iter()
@@ -105,11 +120,15 @@ impl Both {
         next_number: u16,
         name: &dyn Fn() -> String,
     ) {
-        let mut frame = [0xa5; 10];
-        let due = raw::host_acknowledge(&self.words, answer, next_number, &mut frame);
         let acknowledgement = self.reference.acknowledgement(expected, next_number);
-        assert_eq!(due, u32::from(acknowledgement.is_some()), "{}", name());
-        assert_eq!(frame, acknowledgement.unwrap_or([0xa5; 10]), "{}", name());
+        let expected = (
+            u32::from(acknowledgement.is_some()),
+            acknowledgement.unwrap_or([0xa5; 10]),
+        );
+        let got = acknowledged(&self.words, answer, next_number);
+        assert_eq!(got, expected, "{}", name());
+        let got = acknowledged_by_value(self.by_value.words(), answer, next_number);
+        assert_eq!(got, expected, "by value: {}", name());
     }
 
     fn compare_state(&self, name: &dyn Fn() -> String) {
@@ -122,6 +141,8 @@ impl Both {
         );
         let got = Host::from_words(&self.words).to_words();
         assert!(got == self.reference.to_words(), "state: {}", name());
+        let got = Host::from_words(self.by_value.words()).to_words();
+        assert!(got == self.reference.to_words(), "by value: {}", name());
         let got = Host::from_words(&self.plain.host_words()).to_words();
         let expected = self.reference.to_words();
         assert!(got == expected, "state of the plain host: {}", name());
@@ -136,6 +157,28 @@ impl Both {
     pub fn words(&self) -> &[u64; HOST_WORDS] {
         &self.words
     }
+}
+
+/// Whether an acknowledgement is due, and the buffer for it after the call.
+pub fn acknowledged(
+    words: &[u64; HOST_WORDS],
+    answer: &[u64; ANSWER_WORDS],
+    number: u16,
+) -> (u32, [u8; 10]) {
+    let mut frame = [0xa5; 10];
+    let due = raw::host_acknowledge(words, answer, number, &mut frame);
+    (due, frame)
+}
+
+/// The same by value.
+pub fn acknowledged_by_value(
+    words: &[u64; HOST_WORDS],
+    answer: &[u64; ANSWER_WORDS],
+    number: u16,
+) -> (u32, [u8; 10]) {
+    let mut frame = [0xa5; 10];
+    let due = raw::host_acknowledge_by_value(words, answer, number, &mut frame);
+    (due, frame)
 }
 
 /// What a kind of answer does not have is 0.

@@ -1,25 +1,13 @@
 -- `capi::host_end::lw_raw_host_acknowledge`: the bytes where they are due.
 -- Assumes nothing.
-use mathlib.Core.Path.{_≡_}
-use mathlib.Core.Bool.{Bool, true, false, cond}
-use mathlib.Core.List.{List}
-use Prim.Native.Nat.{ℕ}
-use Rattle.host.specs.declared.Acknowledgement.{Acknowledgement}
-use Rattle.capi.specs.Words.{dueNumber, writtenWhereDue}
+use mathlib.Core.Bool.{true, false}
+use Rattle.capi.proofs.Due.{due-is, written-is}
 use borrow.Author.Needs.{needs}
 use Rattle.capi.proofs.host_end.lw_raw_host_acknowledge.Statement.{statement}
 use Rattle.capi.proofs.host_end.lw_raw_host_acknowledge.Tie as tie
 use Rattle.capi.proofs.host_end.lw_raw_host_acknowledge.Reads as reads
 use Rattle.capi.proofs.host_end.lw_raw_host_acknowledge.Lts as lts
 use Rattle.logwhisker.proofs.acknowledge_words.Reads as acknowledge-words-reads
-
--- what is told and what is written, by whether the acknowledgement that was made is due
-due-is : (made a : Acknowledgement) (due : Bool) → made ≡ a → made .due ≡ due → cond due 1 0 ≡ dueNumber a
-due-is made a due e d = rw (← e, d)
-
-written-is : (made a : Acknowledgement) (buffer : List ℕ) (due : Bool) → made ≡ a → made .due ≡ due
-    → cond due (made .frame) buffer ≡ writtenWhereDue a buffer
-written-is made a buffer due e d = rw (← e, d)
 
 element-copy-out-kind : tie.Need-element-copy-out-kind
 element-copy-out-kind c = search needs
