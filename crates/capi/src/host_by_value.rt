@@ -8,7 +8,7 @@ ghost use lib.ListN.{getD};
 ghost use Rattle.host.specs.Host.{LeavesWords, answerWords, answerOf};
 ghost use Rattle.host_words.specs.Words.{pairOf};
 ghost use Rattle.logwhisker.specs.Face.{hostOpened, received, acknowledgement};
-ghost use Rattle.capi.specs.Words.{dueNumber, writtenWhereDue};
+ghost use Rattle.host_answer.specs.Due.{dueNumber, writtenWhereDue};
 
 // Opens a host: 0, or 13 where an ID is 0.
 #[no_mangle]
@@ -74,10 +74,5 @@ pub extern "C" fn lw_raw_host_acknowledge_by_value(
 {
     let a = host_answer::answer_of(answer[0], answer[1], answer[7]);
     let ack = logwhisker::acknowledge_by_value(pack::unpack(words), a, FrameNo(number));
-    if ack.due {
-        let bytes = ack.frame;
-        *frame = bytes;
-        return 1;
-    }
-    0
+    logwhisker::put_acknowledgement(frame, ack)
 }

@@ -1,10 +1,11 @@
 // The charging host for C, behind the functions of include/logwhisker.h: numbers, slices and references to arrays only.
 // Assumes of a caller that pointers and lengths are right. It promises what the library's face does, with answers as
-// words (specs/Words.antt).
+// words and with what is due written (host_answer/specs/Due.antt).
 use logwhisker::FrameNo;
 ghost use mathlib.Core.Path.{_≡_};
 ghost use lib.ListN.{getD};
 ghost use Rattle.host.specs.Host.{LeavesWords, answerWords, answerOf};
+ghost use Rattle.host_answer.specs.Due.{dueNumber, writtenWhereDue};
 ghost use Rattle.host_words.specs.Describing.{description as descriptionOf};
 ghost use Rattle.host_words.specs.Words.{pairOf};
 ghost use Rattle.logwhisker.specs.Face.{
@@ -15,7 +16,6 @@ ghost use Rattle.logwhisker.specs.Face.{
   bufferFilled,
   hostRestored,
 };
-ghost use Rattle.capi.specs.Words.{dueNumber, writtenWhereDue};
 
 // Opens a host: 0, or 13 where an ID is 0.
 #[no_mangle]
@@ -73,12 +73,7 @@ pub extern "C" fn lw_raw_host_acknowledge(
     let answered = answer[1];
     let run = answer[7];
     let ack = logwhisker::acknowledge_words(words, kind, answered, run, FrameNo(number));
-    if ack.due {
-        let bytes = ack.frame;
-        *frame = bytes;
-        return 1;
-    }
-    0
+    logwhisker::put_acknowledgement(frame, ack)
 }
 
 // Describes a host: IDs, windows, and the open transactions, nearest the lowest first.

@@ -1,5 +1,6 @@
-// Answers as words that C reads, and the acknowledgement that an answer calls for, with the pair in lent words. Assumes
-// nothing: any words have an answer. It promises host/specs/Host.antt, answerWords and acknowledgementOf.
+// Answers as words that C reads, and back; the acknowledgement that an answer calls for, with the pair in lent words,
+// and its bytes for C. Assumes nothing: any words have an answer. It promises host/specs/Host.antt, answerWords,
+// answerOf and acknowledgementOf, and specs/Due.antt.
 use host::Acknowledgement;
 use host::Answer;
 use host_words::pair;
@@ -9,6 +10,7 @@ ghost use mathlib.Core.List.{[], _∷_};
 ghost use lib.ListN.{getD};
 ghost use Rattle.host.specs.Host.{answerWords, answerOf, acknowledgementOf};
 ghost use Rattle.host_words.specs.Words.{pairOf};
+ghost use Rattle.host_answer.specs.Due.{dueNumber, writtenWhereDue};
 
 // An answer's eight words.
 struct Line {
@@ -145,4 +147,17 @@ pub fn acknowledge_words(
     ensures { λ r. ⌜ r ≡ acknowledgementOf (pairOf (now (words .entry))) (answerOf kind answered run) (number .0) ⌝ }
 {
     acknowledge_in_place(words, answer_of(kind, answered, run), number)
+}
+
+// Writes an acknowledgement that is due and answers 1; where none is due nothing is written and the answer is 0.
+pub fn put_acknowledgement(out: &mut [u8; 10], ack: Acknowledgement) -> u32
+    ensures { λ r. ⌜ r ≡ dueNumber ack ⌝ }
+    ensures { λ _. ⌜ now (out .exit) ≡ writtenWhereDue ack (now (out .entry)) ⌝ }
+{
+    if ack.due {
+        let bytes = ack.frame;
+        *out = bytes;
+        return 1;
+    }
+    0
 }

@@ -18,6 +18,7 @@ pub use host::Opened;
 pub use host::Pair;
 pub use host::Stepped;
 pub use host_answer::kind_of;
+pub use host_answer::put_acknowledgement;
 pub use host_answer::put_answer;
 pub use host_plain::PlainOpened;
 pub use host_plain::PlainPair;

@@ -1,13 +1,12 @@
 -- `capi::host_by_value::lw_raw_host_acknowledge_by_value`: the bytes where they are due, from the pair unpacked.
 -- Assumes nothing.
-use mathlib.Core.Bool.{true, false}
-use Rattle.capi.proofs.Due.{due-is, written-is}
 use borrow.Author.Needs.{needs}
 use Rattle.capi.proofs.host_by_value.lw_raw_host_acknowledge_by_value.Statement.{statement}
 use Rattle.capi.proofs.host_by_value.lw_raw_host_acknowledge_by_value.Tie as tie
 use Rattle.capi.proofs.host_by_value.lw_raw_host_acknowledge_by_value.Reads as reads
 use Rattle.capi.proofs.host_by_value.lw_raw_host_acknowledge_by_value.Lts as lts
 use Rattle.host_answer.proofs.answer_of.Reads as answer-of-reads
+use Rattle.host_answer.proofs.put_acknowledgement.Reads as put-acknowledgement-reads
 use Rattle.host_words.proofs.pack.unpack.Reads as unpack-reads
 use Rattle.logwhisker.proofs.acknowledge_by_value.Reads as acknowledge-by-value-reads
 
@@ -29,17 +28,14 @@ unpack-requires c κs = search needs
 acknowledge-by-value-requires : tie.Need-acknowledge-by-value-requires
 acknowledge-by-value-requires c κs = search needs
 
+put-acknowledgement-requires : tie.Need-put-acknowledgement-requires
+put-acknowledgement-requires c κs = search needs
+
 returns : tie.Need-returns
 returns c =
     let k = c .before .before in
     let e = rw (k .before .unpack .ensures, k .before .before .before .answer-of .ensures) at (k .acknowledge-by-value .ensures) in
-    (due-is _ _ true e (c .before .if1 .taken), written-is _ _ _ true e (c .before .if1 .taken))
-
-returns-2 : tie.Need-returns-2
-returns-2 c =
-    let k = c .before in
-    let e = rw (k .before .unpack .ensures, k .before .before .before .answer-of .ensures) at (k .acknowledge-by-value .ensures) in
-    (due-is _ _ false e (c .if1 .left), written-is _ _ _ false e (c .if1 .left))
+    rw e at (c .put-acknowledgement .ensures)
 
 pub lw-raw-host-acknowledge-by-value-spec : {M : Type 1} → statement M
 lw-raw-host-acknowledge-by-value-spec =
@@ -51,5 +47,5 @@ lw-raw-host-acknowledge-by-value-spec =
     answer-of-requires
     unpack-requires
     acknowledge-by-value-requires
-    returns
-    returns-2)
+    put-acknowledgement-requires
+    returns)

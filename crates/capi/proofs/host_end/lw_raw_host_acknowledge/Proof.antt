@@ -1,12 +1,11 @@
 -- `capi::host_end::lw_raw_host_acknowledge`: the bytes where they are due.
 -- Assumes nothing.
-use mathlib.Core.Bool.{true, false}
-use Rattle.capi.proofs.Due.{due-is, written-is}
 use borrow.Author.Needs.{needs}
 use Rattle.capi.proofs.host_end.lw_raw_host_acknowledge.Statement.{statement}
 use Rattle.capi.proofs.host_end.lw_raw_host_acknowledge.Tie as tie
 use Rattle.capi.proofs.host_end.lw_raw_host_acknowledge.Reads as reads
 use Rattle.capi.proofs.host_end.lw_raw_host_acknowledge.Lts as lts
+use Rattle.host_answer.proofs.put_acknowledgement.Reads as put-acknowledgement-reads
 use Rattle.logwhisker.proofs.acknowledge_words.Reads as acknowledge-words-reads
 
 element-copy-out-kind : tie.Need-element-copy-out-kind
@@ -21,15 +20,11 @@ element-copy-out-run c = search needs
 acknowledge-words-requires : tie.Need-acknowledge-words-requires
 acknowledge-words-requires c κs = search needs
 
-returns : tie.Need-returns
-returns c =
-    let e = c .before .before .acknowledge-words .ensures in
-    (due-is _ _ true e (c .before .if1 .taken), written-is _ _ _ true e (c .before .if1 .taken))
+put-acknowledgement-requires : tie.Need-put-acknowledgement-requires
+put-acknowledgement-requires c κs = search needs
 
-returns-2 : tie.Need-returns-2
-returns-2 c =
-    let e = c .before .acknowledge-words .ensures in
-    (due-is _ _ false e (c .if1 .left), written-is _ _ _ false e (c .if1 .left))
+returns : tie.Need-returns
+returns c = rw (c .before .before .acknowledge-words .ensures) at (c .put-acknowledgement .ensures)
 
 pub lw-raw-host-acknowledge-spec : {M : Type 1} → statement M
 lw-raw-host-acknowledge-spec =
@@ -39,5 +34,5 @@ lw-raw-host-acknowledge-spec =
     element-copy-out-answered
     element-copy-out-run
     acknowledge-words-requires
-    returns
-    returns-2)
+    put-acknowledgement-requires
+    returns)

@@ -1,4 +1,4 @@
--- A host for C: what an acknowledgement that may be due leaves.
+-- What is told to C of an acknowledgement that may be due, and what is written.
 use Prim.Native.Nat.{ℕ}
 use mathlib.Core.Bool.{cond}
 use mathlib.Core.List.{List}
