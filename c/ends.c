@@ -211,6 +211,11 @@ static void check_whole_case_at_host(void)
               lw_host_acknowledge(&receiver.host, &answer, 0, acknowledgement), 1);
         check_bytes("acknowledgement", kind, acknowledgement, whole_acknowledgement,
                     sizeof acknowledgement);
+        memset(acknowledgement, 0xee, sizeof acknowledgement);
+        check("acknowledgement due, plain", kind,
+              lw_plain_acknowledge(&receiver.plain, &answer, 0, acknowledgement), 1);
+        check_bytes("acknowledgement, plain", kind, acknowledgement, whole_acknowledgement,
+                    sizeof acknowledgement);
     }
     end_group("whole case at the host");
 }
@@ -229,6 +234,10 @@ static void check_acknowledgements(void)
             continue;
         check("due", run, lw_host_acknowledge(&receiver.host, &high, 0x1234, acknowledgement), 1);
         check_bytes("bytes", run, acknowledgement, want, sizeof want);
+        memset(acknowledgement, 0xee, sizeof acknowledgement);
+        check("due, plain", run,
+              lw_plain_acknowledge(&receiver.plain, &high, 0x1234, acknowledgement), 1);
+        check_bytes("bytes, plain", run, acknowledgement, want, sizeof want);
     }
 
     /* No other answer calls for one, nor does a run of none, and then nothing is written. */
@@ -237,6 +246,8 @@ static void check_acknowledgements(void)
         const lw_answer answer = {.kind = kind, .number = 5, .run = due ? 0 : 1};
         memset(acknowledgement, 0xee, sizeof acknowledgement);
         check("due", kind, lw_host_acknowledge(&receiver.host, &answer, 0, acknowledgement), 0);
+        check("due, plain", kind,
+              lw_plain_acknowledge(&receiver.plain, &answer, 0, acknowledgement), 0);
         for (size_t i = 0; i < sizeof acknowledgement; i++)
             check("unwritten", i, acknowledgement[i], 0xee);
     }
@@ -792,6 +803,15 @@ static void check_reading(void)
 
 /* ---- Both -------------------------------------------------------------- */
 
+static uint64_t next_random(uint64_t *seed)
+{
+    *seed += 0x9e3779b97f4a7c15;
+    uint64_t mixed = *seed;
+    mixed = (mixed ^ mixed >> 30) * 0xbf58476d1ce4e5b9;
+    mixed = (mixed ^ mixed >> 27) * 0x94d049bb133111eb;
+    return mixed ^ mixed >> 31;
+}
+
 /* What a card sends arrives, while all frame numbers come round. */
 static void check_coming_round(void)
 {
@@ -826,6 +846,91 @@ static void check_coming_round(void)
         check("read", i, lw_card_read(&sender.card, acknowledgement, sizeof acknowledgement), 0);
     }
     end_group("frame numbers that come round");
+}
+
+/* Transactions of a card, each of one message of four bytes, and a completion of four. */
+enum { BILLED = 3000 };
+
+/* A plain host, its memory and what it has billed. */
+struct plain_end {
+    lw_plain host;
+    uint8_t memory[8 * BILLED];
+    uint64_t messages, completed, repeats;
+};
+
+/* Opens, adds and seals until the card's window is full or all is sealed; gives how many are. */
+static uint32_t seal_more(struct sender *sender, uint32_t sealed)
+{
+    uint32_t transaction = UINT32_MAX;
+    uint16_t number;
+
+    while (sealed < BILLED &&
+           lw_card_open_transaction(&sender->card, 1, 4 * (BILLED + sealed), ~sealed,
+                                    &transaction) == LW_NOT_REFUSED) {
+        uint8_t data[4];
+        put32(data, sealed + 1);
+        check("transaction", sealed, transaction, sealed);
+        check("add", sealed,
+              lw_card_add(&sender->card, sender->slots, sizeof sender->slots, transaction,
+                          4 * sealed, data, sizeof data),
+              LW_NOT_REFUSED);
+        check("seal", sealed, seal(sender, &number), LW_NOT_REFUSED);
+        sealed++;
+    }
+    return sealed;
+}
+
+/* Sends a frame; the card reads its acknowledgement unless that is lost. */
+static void send_once(struct sender *sender, struct plain_end *end, lw_part frame, bool lost)
+{
+    uint8_t acknowledgement[LW_ACKNOWLEDGEMENT];
+    lw_answer answer;
+    const uint32_t kind = lw_plain_receive(&end->host, frame.start, frame.length, end->memory,
+                                           sizeof end->memory, &answer);
+
+    check("kind", 0, kind == LW_ACCEPTED || kind == LW_AGAIN, 1);
+    end->messages += answer.messages;
+    end->completed += answer.completed;
+    end->repeats += kind == LW_AGAIN;
+    check("due", 0, lw_plain_acknowledge(&end->host, &answer, 0, acknowledgement), 1);
+    if (!lost)
+        check("read", 0, lw_card_read(&sender->card, acknowledgement, sizeof acknowledgement), 0);
+}
+
+/* A card against the plain host by itself, over a path that loses, repeats and overtakes, until
+ * the card holds nothing more: each transaction is in memory then, and was billed once. */
+static void check_card_and_plain_host(void)
+{
+    static struct sender sender;
+    static struct plain_end end;
+    static uint8_t want[sizeof end.memory];
+    uint64_t seed = 5;
+    lw_part part;
+
+    open_sender(&sender);
+    check("plain host", 0, lw_plain_open(&end.host, OWN, PEER), LW_NOT_REFUSED);
+    uint32_t sealed = seal_more(&sender, 0);
+    while (choose(&sender, NULL, 0, &part) == LW_NOT_REFUSED) {
+        lw_part other;
+        const uint16_t latest = (uint16_t)(sealed - 1 - next_random(&seed) % 8);
+        if (next_random(&seed) % 3 == 0 && show(&sender, latest, &other) == LW_NOT_REFUSED)
+            part = other; /* it overtakes the oldest one */
+        if (next_random(&seed) % 4 != 0)
+            send_once(&sender, &end, part, next_random(&seed) % 4 == 0);
+        sealed = seal_more(&sender, sealed);
+    }
+    for (uint32_t i = 0; i < BILLED; i++) {
+        put32(want + 4 * i, i + 1);
+        put32(want + 4 * (BILLED + i), ~i);
+    }
+    check("all were sealed", 0, sealed, BILLED);
+    check("messages", 0, end.messages, BILLED);
+    check("completed", 0, end.completed, BILLED);
+    check("some were repeated", 0, end.repeats > 100, 1);
+    check("next", 0, end.host.next, BILLED);
+    check("lowest", 0, end.host.lowest, BILLED);
+    check_bytes("memory", 0, end.memory, want, sizeof want);
+    end_group("a card and the plain host, to the end");
 }
 
 static void check_null(void)
@@ -873,15 +978,6 @@ static uint8_t *with_closed_end(size_t size)
         exit(EXIT_FAILURE);
     }
     return start + room - size;
-}
-
-static uint64_t next_random(uint64_t *seed)
-{
-    *seed += 0x9e3779b97f4a7c15;
-    uint64_t mixed = *seed;
-    mixed = (mixed ^ mixed >> 30) * 0xbf58476d1ce4e5b9;
-    mixed = (mixed ^ mixed >> 27) * 0x94d049bb133111eb;
-    return mixed ^ mixed >> 31;
 }
 
 /* Words of any bits; now and then few of them set, so that windows are met. */
@@ -1191,6 +1287,7 @@ int main(void)
     check_limit();
     check_reading();
     check_coming_round();
+    check_card_and_plain_host();
     check_null();
     check_wild_hosts();
     check_stored_hosts();

@@ -264,6 +264,8 @@ uint32_t lw_raw_host_restore(lw_host *host, const uint8_t *text, size_t length);
 uint32_t lw_raw_plain_open(lw_plain *host, uint16_t own, uint16_t peer);
 uint32_t lw_raw_plain_receive(lw_plain *host, const uint8_t *frame, size_t length, uint8_t *memory,
                               size_t size, lw_answer *answer);
+uint32_t lw_raw_plain_acknowledge(const lw_plain *host, const lw_answer *answer, uint16_t number,
+                                  uint8_t acknowledgement[LW_ACKNOWLEDGEMENT]);
 uint32_t lw_raw_card_open(lw_card *card, uint16_t own, uint16_t peer, size_t limit,
                           const uint8_t *slots, size_t size);
 uint32_t lw_raw_card_open_transaction(lw_card *card, uint16_t count, uint32_t address,
@@ -396,6 +398,15 @@ static inline uint32_t lw_plain_receive(lw_plain *host, const uint8_t *frame, si
     uint8_t none = 0;
     return lw_raw_plain_receive(host, length != 0 ? frame : &none, length,
                                 size != 0 ? memory : &none, size, answer);
+}
+
+/* As lw_host_acknowledge: from a state that is described as the first host's it returns
+ * the same and writes the same bytes. */
+static inline uint32_t lw_plain_acknowledge(const lw_plain *host, const lw_answer *answer,
+                                            uint16_t number,
+                                            uint8_t acknowledgement[LW_ACKNOWLEDGEMENT])
+{
+    return lw_raw_plain_acknowledge(host, answer, number, acknowledgement);
 }
 
 /* ---- The card ---------------------------------------------------------- */

@@ -6,10 +6,11 @@ use mathlib.Core.Bool.{Bool, false, cond, not}
 use mathlib.Core.List.{List}
 use lib.Dec.{eqb, ltb}
 use lib.ListN.{getD}
+use Rattle.host.specs.declared.Acknowledgement.{Acknowledgement}
 use Rattle.host.specs.declared.Open.{Open}
-use Rattle.host.specs.Host.{tookEffect}
+use Rattle.host.specs.Host.{tookEffect, answerOf}
 use Rattle.host_plain.specs.declared.PlainPair.{PlainPair}
-use Rattle.host_plain.specs.Plain.{free, Received, receiveOf}
+use Rattle.host_plain.specs.Plain.{free, Received, receiveOf, acknowledgementOf}
 use Rattle.host_equal.specs.Described.{listOf}
 
 -- ---- the state that words hold
@@ -73,3 +74,10 @@ received w f memory = receiveOf (plainOf w) f memory
 -- The words after it: those of the state that an accepted frame leaves, and as they were for any other answer.
 abbrev pub leftWords : List ℕ → Received → List ℕ
 leftWords w r = cond (tookEffect (r .answer)) (wordsOf (r .pair)) w
+
+-- ---- acknowledging
+
+-- The acknowledgement that an answer calls for whose words are lent: its kind, number and run count.
+abbrev pub acknowledgement : List ℕ → List ℕ → ℕ → Acknowledgement
+acknowledgement w answer num =
+    acknowledgementOf (plainOf w) (answerOf (word answer 0) (word answer 1) (word answer 7)) num

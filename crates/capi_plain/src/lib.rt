@@ -11,6 +11,7 @@ ghost use mathlib.Core.Path.{_≡_};
 ghost use Prim.Native.Nat.{_<_};
 ghost use lib.ListN.{getD};
 ghost use Rattle.host.specs.Host.{answerWords};
+ghost use Rattle.host_answer.specs.Due.{dueNumber, writtenWhereDue};
 ghost use Rattle.host_plain.specs.Plain.{openedOf};
 ghost use Rattle.capi_plain.specs.Words.{
   marksFrom,
@@ -23,6 +24,7 @@ ghost use Rattle.capi_plain.specs.Words.{
   wordsOf,
   received,
   leftWords,
+  acknowledgement,
 };
 
 // ---- a state read from words
@@ -196,4 +198,25 @@ pub extern "C" fn lw_raw_plain_receive(
     }
     host_answer::put_answer(answer, a);
     kind
+}
+
+// Writes the acknowledgement that an answer calls for and answers 1; where it calls for none nothing is written and the
+// answer is 0.
+#[no_mangle]
+pub extern "C" fn lw_raw_plain_acknowledge(
+    words: &[u64; 228],
+    answer: &[u64; 8],
+    number: u16,
+    frame: &mut [u8; 10],
+) -> u32
+    ensures { λ r. ⌜ r ≡ dueNumber (acknowledgement (now (words .entry)) (now (answer .entry)) number) ⌝ }
+    ensures { λ _. ⌜ now (frame .exit)
+        ≡ writtenWhereDue (acknowledgement (now (words .entry)) (now (answer .entry)) number) (now (frame .entry)) ⌝ }
+{
+    let kind = answer[0];
+    let answered = answer[1];
+    let run = answer[7];
+    let a = host_answer::answer_of(kind, answered, run);
+    let ack = host_plain::acknowledge(plain_of(words), a, FrameNo(number));
+    host_answer::put_acknowledgement(frame, ack)
 }

@@ -14,7 +14,8 @@ use Rattle.bitmap.proofs.Marks.{withMark-lt, moved-lt, marksOf-lt}
 use Rattle.wire.specs.Format.{Message}
 use Rattle.wire.specs.Reading.{number, flags, addressed, Read, bad, good, readFrame}
 use Rattle.host.specs.declared.Pair.{Pair}
-use Rattle.host.specs.declared.Answer.the-variants.{NoMessages}
+use Rattle.host.specs.declared.Answer.{Answer}
+use Rattle.host.specs.declared.Answer.the-variants.{Accepted, Again, NoMessages, Refused}
 use Rattle.host.specs.Host.{
   fresh,
   refusedOpening,
@@ -35,6 +36,8 @@ use Rattle.host.specs.Host.{
   byNumber,
   answered,
   receiveOf,
+  acknowledgementFrom,
+  acknowledgementOf,
 }
 use Rattle.host_plain.specs.declared.PlainPair.{PlainPair}
 use Rattle.host_plain.specs.Plain as plain
@@ -245,6 +248,26 @@ pub same-sequences : (p : Pair) (q : PlainPair) → Typed p → TypedPlain q →
 same-sequences p q k l e memory fs =
     sequences-same fs p memory (record { marks-fit = k .marks-fit; closed-fit = k .closed-fit })
     ∙ ap (λ (q : PlainPair). afterPlain q memory fs) (sym (plain-is p q k l e))
+
+-- ---- acknowledgements
+
+-- From equal descriptions both hosts acknowledge any answer alike: whether it is due, and every byte.
+pub same-acknowledgements : (p : Pair) (q : PlainPair) → describe p ≡ describePlain q → (a : Answer) (num : ℕ)
+    → acknowledgementOf p a num ≡ plain.acknowledgementOf q a num
+unfolding acknowledgementFrom describe describePlain
+same-acknowledgements p q e a num = go a
+  where
+    same-own : p .own ≡ q .own
+    same-own = ap (λ (d : Described). d .own) e
+
+    same-peer : p .peer ≡ q .peer
+    same-peer = ap (λ (d : Described). d .peer) e
+
+    go : (a : Answer) → acknowledgementOf p a num ≡ plain.acknowledgementOf q a num
+    go (Accepted n sums run) = rw (same-own, same-peer)
+    go (Again n run) = rw (same-own, same-peer)
+    go NoMessages = rw (same-own, same-peer)
+    go (Refused r) = rw (same-own, same-peer)
 
 -- ---- openings
 

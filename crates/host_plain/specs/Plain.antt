@@ -1,6 +1,7 @@
--- The plain host: opening a pair, and receiving a frame. Marks are lists of yes and no; the first stands for the lowest
--- number of a window, and each further one for the next number. Nothing here is the first host's: only the format of
--- frames, bytes in memory, distances and the types of answers and of open transactions are shared with it.
+-- The plain host: opening a pair, receiving a frame, and the acknowledgement that an answer calls for. Marks are lists
+-- of yes and no; the first stands for the lowest number of a window, and each further one for the next number. Nothing
+-- here is the first host's: only the format of frames, bytes in memory, distances and the types of answers, of
+-- acknowledgements and of open transactions are shared with it.
 use Prim.Native.Nat.{ℕ, zero, suc, _+_, _%_}
 use mathlib.Core.Bool.{Bool, true, false, cond, not, _&&_, _||_}
 use mathlib.Core.List.{List, [], _∷_, _++_}
@@ -11,8 +12,10 @@ use Rattle.octets.specs.Octets.{little, written}
 use Rattle.wire.specs.declared.MessageHeader.{MessageHeader}
 use Rattle.wire.specs.Format.{Message, headOf}
 use Rattle.wire.specs.Reading.{number, flags, addressed, Read, bad, good, readFrame}
+use Rattle.wire.specs.Writing.{ackFrame}
 use Rattle.host.specs.declared.Open.{Open}
 use Rattle.host.specs.declared.Sums.{Sums}
+use Rattle.host.specs.declared.Acknowledgement.{Acknowledgement}
 use Rattle.host.specs.declared.Answer.{Answer}
 use Rattle.host.specs.declared.Answer.the-variants.{Accepted, Again, NoMessages, Refused}
 use Rattle.host_plain.specs.declared.PlainFrames.{PlainFrames}
@@ -234,3 +237,17 @@ receiveOf p f memory = answered p f memory (readFrame (addressed (p .own) (p .pe
 
 abbrev pub steppedOf : Received → PlainStepped
 steppedOf r = record { pair = r .pair; answer = r .answer }
+
+-- ---- acknowledging
+
+-- A frame from the own ID to the peer's that acknowledges `run` numbers from `start` on; it is due where that is at
+-- least one. It carries `num`, the number that the caller gives for the own next frame.
+abbrev pub acknowledging : PlainPair → ℕ → ℕ → ℕ → Acknowledgement
+acknowledging p num start run = record { due = ltb 0 run; frame = ackFrame (p .peer) (p .own) num start run }
+
+-- Accepted and again call for one of the run that they end with, from their own number on. The others call for none.
+abbrev pub acknowledgementOf : PlainPair → Answer → ℕ → Acknowledgement
+acknowledgementOf p (Accepted n sums run) num = acknowledging p num (n .0) run
+acknowledgementOf p (Again n run) num = acknowledging p num (n .0) run
+acknowledgementOf p NoMessages num = acknowledging p num 0 0
+acknowledgementOf p (Refused r) num = acknowledging p num 0 0

@@ -1,6 +1,7 @@
 // The plain host: a second charging host, to be read in one sitting. Its marks are arrays of yes and no, moved along
 // one place at a time. Assumes nothing of the pair, which may be one that no run reaches. It promises answer, pair and
 // every byte of memory as specs/Plain.antt says; the crate host_equal shows that the first host's are the same.
+use host::Acknowledgement;
 use host::Answer;
 use host::Open;
 use host::Refusal;
@@ -10,6 +11,7 @@ use seq::TransNo;
 use wire::MessageHeader;
 use wire_read::Found;
 use wire_read::layout;
+use wire_write::headers;
 ghost use mathlib.Core.Path.{_≡_};
 ghost use Prim.Native.Nat.{_≤_, _<_};
 ghost use lib.ListN.{length};
@@ -384,4 +386,28 @@ pub fn receive(pair: PlainPair, f: &[u8], memory: &mut [u8]) -> PlainStepped
         return refuse(pair, refusal::FRAME_AHEAD, 0);
     }
     take_frame(pair, f, memory, number)
+}
+
+// ---- acknowledging
+
+// An acknowledgement of a run of numbers from start on, from the own ID to the peer's; none is due where the run is 0.
+fn acknowledging(pair: PlainPair, number: FrameNo, start: FrameNo, run: u8) -> Acknowledgement
+    ensures { λ r. ⌜ r ≡ plain.acknowledging pair (number .0) (start .0) run ⌝ }
+{
+    Acknowledgement {
+        due: 0 < run,
+        frame: headers::ack_frame(pair.peer, pair.own, number, start, run),
+    }
+}
+
+// The acknowledgement that an answer calls for, from a host whose next message frame will have this number.
+pub fn acknowledge(pair: PlainPair, answer: Answer, number: FrameNo) -> Acknowledgement
+    ensures { λ r. ⌜ r ≡ plain.acknowledgementOf pair answer (number .0) ⌝ }
+{
+    match answer {
+        Answer::Accepted(start, _, run) => acknowledging(pair, number, start, run),
+        Answer::Again(start, run) => acknowledging(pair, number, start, run),
+        Answer::NoMessages => acknowledging(pair, number, FrameNo(0), 0),
+        Answer::Refused(_) => acknowledging(pair, number, FrameNo(0), 0),
+    }
 }

@@ -23,6 +23,7 @@ pub use host_answer::put_answer;
 pub use host_plain::PlainOpened;
 pub use host_plain::PlainPair;
 pub use host_plain::PlainStepped;
+pub use host_plain::acknowledge as acknowledge_plainly;
 pub use host_plain::open_pair as open_plain_host;
 pub use host_plain::receive as receive_plainly;
 use host_receive::by_value;

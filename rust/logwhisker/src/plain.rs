@@ -1,6 +1,7 @@
 //! The plain host, for tests and audits: it answers as [`Host`](crate::Host) does, and its
 //! state may be looked into.
 
+use crate::FRAME_HEADER;
 use crate::host::Answer;
 use crate::raw::{self, ANSWER_WORDS, PLAIN_WORDS};
 use crate::refusal::Refusal;
@@ -15,6 +16,7 @@ use crate::refusal::Refusal;
 /// let mut plain = PlainHost::open(1, 2)?;
 /// let answer = host.receive(&[0; 10], &mut memories[0]);
 /// assert_eq!(plain.receive(&[0; 10], &mut memories[1]), answer);
+/// assert_eq!(plain.acknowledge(&answer, 0), host.acknowledge(&answer, 0));
 /// # Ok::<(), logwhisker::Refusal>(())
 /// ```
 #[derive(Clone, Debug, PartialEq, Eq)]
@@ -36,6 +38,14 @@ impl PlainHost {
         let mut answer = [0; ANSWER_WORDS];
         raw::plain_receive(&mut self.words, frame, memory, &mut answer);
         Answer::from_words(&answer)
+    }
+
+    /// The acknowledgement to be sent for an answer, if it calls for one, as
+    /// [`Host::acknowledge`](crate::Host::acknowledge) gives it.
+    pub fn acknowledge(&self, answer: &Answer, number: u16) -> Option<[u8; FRAME_HEADER]> {
+        let mut frame = [0; FRAME_HEADER];
+        let due = raw::plain_acknowledge(&self.words, &answer.words(), number, &mut frame);
+        (due != 0).then_some(frame)
     }
 
     /// The state that these words are; any words are one.

@@ -56,6 +56,12 @@ mod exported {
             size: usize,
             answer: *mut u64,
         ) -> u32;
+        pub fn lw_raw_plain_acknowledge(
+            words: *const u64,
+            answer: *const u64,
+            number: u16,
+            frame: *mut u8,
+        ) -> u32;
         pub fn lw_raw_host_acknowledge(
             words: *const u64,
             answer: *const u64,
@@ -218,6 +224,25 @@ pub fn plain_receive(
             memory.as_mut_ptr(),
             memory.len(),
             answer.as_mut_ptr(),
+        )
+    }
+}
+
+/// Writes the acknowledgement that an answer calls for at a plain host and gives 1;
+/// otherwise 0, and nothing is written.
+#[inline]
+pub fn plain_acknowledge(
+    words: &[u64; PLAIN_WORDS],
+    answer: &[u64; ANSWER_WORDS],
+    number: u16,
+    frame: &mut [u8; 10],
+) -> u32 {
+    unsafe {
+        exported::lw_raw_plain_acknowledge(
+            words.as_ptr(),
+            answer.as_ptr(),
+            number,
+            frame.as_mut_ptr(),
         )
     }
 }

@@ -10,6 +10,7 @@ mod both;
 #[allow(dead_code)]
 mod faulty_host;
 
+use both::plain::Plain;
 use both::{Both, acknowledged, acknowledged_by_value};
 use faulty_host::{Fault, Faulty, Seen};
 use logwhisker::raw::{ANSWER_WORDS, HOST_WORDS};
@@ -541,6 +542,8 @@ fn any_answer_is_acknowledged_alike() {
             1 | 2 => host.acknowledgement(again, number),
             _ => None,
         };
+        let plain = Plain::from_words(&words, &[]);
+        plain.acknowledge(&answer, number, expected, &|| format!("{answer:x?}"));
         let expected = (
             u32::from(expected.is_some()),
             expected.unwrap_or([0xa5; 10]),

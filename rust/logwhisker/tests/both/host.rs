@@ -3,7 +3,7 @@
 //! compared.
 
 mod by_value;
-mod plain;
+pub mod plain;
 
 use by_value::ByValue;
 use logwhisker::raw::{self, ANSWER_WORDS, DESCRIPTION_WORDS, HOST_WORDS};
@@ -121,6 +121,8 @@ impl Both {
         name: &dyn Fn() -> String,
     ) {
         let acknowledgement = self.reference.acknowledgement(expected, next_number);
+        self.plain
+            .acknowledge(answer, next_number, acknowledgement, name);
         let expected = (
             u32::from(acknowledgement.is_some()),
             acknowledgement.unwrap_or([0xa5; 10]),

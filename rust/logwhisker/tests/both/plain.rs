@@ -78,6 +78,20 @@ impl Plain {
         }
     }
 
+    /// Lets it acknowledge an answer by its words, which is to come to this.
+    pub fn acknowledge(
+        &self,
+        answer: &[u64; ANSWER_WORDS],
+        number: u16,
+        expected: Option<[u8; 10]>,
+        name: &dyn Fn() -> String,
+    ) {
+        let mut frame = [0xa5; 10];
+        let due = raw::plain_acknowledge(&self.words, answer, number, &mut frame);
+        let expected = (expected.is_some().into(), expected.unwrap_or([0xa5; 10]));
+        assert_eq!((due, frame), expected, "plain host: {}", name());
+    }
+
     /// The words of the first host that are this state.
     pub fn host_words(&self) -> [u64; HOST_WORDS] {
         let plain = &self.words;
