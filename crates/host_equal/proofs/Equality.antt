@@ -9,7 +9,7 @@ use borrow.Author.Tests.{leb-false}
 use lib.Dec.{eqb, leb}
 use lib.ListN.{replicate}
 use Rattle.seq.specs.Ring.{distance, frameSpace}
-use Rattle.bitmap.specs.Marks.{withMark}
+use Rattle.bitmap.specs.Marks.{mark, withMark}
 use Rattle.bitmap.proofs.Marks.{withMark-lt, moved-lt, marksOf-lt}
 use Rattle.wire.specs.Format.{Message}
 use Rattle.wire.specs.Reading.{number, flags, addressed, Read, bad, good, readFrame}
@@ -53,7 +53,7 @@ use Rattle.host_equal.specs.Described.{
   pairOfPlain,
 }
 use Rattle.host_equal.specs.Sequences.{andBefore, after, afterFirst, afterPlain}
-use Rattle.host_equal.proofs.Windows.{bits, bits-clear, word-of-bits, bits-of-word, same-table}
+use Rattle.host_equal.proofs.Windows.{length-listOf, bits, bits-clear, word-of-bits, bits-of-word, same-table}
 use Rattle.host_equal.proofs.Messages.{plainOf, plainTaken, take-same, take-fits}
 use Rattle.host_equal.proofs.Numbers.{framesOf, past-next-is, settled-same, run-same, accepting-same}
 
@@ -105,6 +105,9 @@ plain-is p q k l e = rw (same-own, same-peer, same-next, same-accepted, same-low
 pub record Fits (p : Pair) : Type 0 where
   pub marks-fit : p .marks < 2 ^ 64
   pub closed-fit : p .closed < 2 ^ 32
+
+fits : (p : Pair) → Typed p → Fits p
+fits p k = record { marks-fit = k .marks-fit; closed-fit = k .closed-fit }
 
 abbrev plainReceived : Received → plain.Received
 plainReceived r = record { pair = plainPair (r .pair); memory = r .memory; answer = r .answer }
@@ -210,6 +213,21 @@ pair-back : (p : Pair) → Fits p → pairOfPlain (plainPair p) ≡ p
 unfolding plainPair pairOfPlain plainOf framesOf
 pair-back p k = rw (word-of-bits 64 (p .marks) (k .marks-fit), word-of-bits 32 (p .closed) (k .closed-fit))
 
+-- A description has all of a pair: two pairs that are described alike are one.
+pub one-described : (p r : Pair) → Typed p → Typed r → describe p ≡ describe r → p ≡ r
+unfolding plainPair plainOf framesOf
+one-described p r k l e =
+    sym (pair-back p (fits p k))
+    ∙ ap pairOfPlain (sym (plain-is p (plainPair r) k typed (e ∙ described-alike r)))
+    ∙ pair-back r (fits r l)
+  where
+    typed : TypedPlain (plainPair r)
+    typed = record {
+      accepted-are = length-listOf 64 (mark (r .marks));
+      closed-are = length-listOf 32 (mark (r .closed));
+      entries = l .entries;
+    }
+
 abbrev pub receivedOfPlain : plain.Received → Received
 receivedOfPlain r = record { pair = pairOfPlain (r .pair); memory = r .memory; answer = r .answer }
 
@@ -246,8 +264,18 @@ sequences-same (f ∷ fs) p memory k =
 pub same-sequences : (p : Pair) (q : PlainPair) → Typed p → TypedPlain q → describe p ≡ describePlain q
     → (memory : List ℕ) (fs : List (List ℕ)) → afterFirst p memory fs ≡ afterPlain q memory fs
 same-sequences p q k l e memory fs =
-    sequences-same fs p memory (record { marks-fit = k .marks-fit; closed-fit = k .closed-fit })
+    sequences-same fs p memory (fits p k)
     ∙ ap (λ (q : PlainPair). afterPlain q memory fs) (sym (plain-is p q k l e))
+
+-- The same of one frame, part by part.
+pub same-step : (p : Pair) (q : PlainPair) → Typed p → TypedPlain q → describe p ≡ describePlain q
+    → (f memory : List ℕ)
+    → (receiveOf p f memory .answer ≡ plain.receiveOf q f memory .answer)
+    × ((receiveOf p f memory .memory ≡ plain.receiveOf q f memory .memory)
+    × (describe (receiveOf p f memory .pair) ≡ describePlain (plain.receiveOf q f memory .pair)))
+same-step p q k l e f memory =
+    rw (plain-is p q k l e, receive-same p (fits p k) memory f .0)
+    (refl, (refl, described-alike (receiveOf p f memory .pair)))
 
 -- ---- acknowledgements
 

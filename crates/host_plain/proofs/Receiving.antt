@@ -2,7 +2,7 @@
 -- Assumes nothing.
 use mathlib.Core.Path.{_≡_, refl, sym, ap, _∙_}
 use mathlib.Core.Logic.{_≢_}
-use mathlib.Core.Bool.{Bool, true, false}
+use mathlib.Core.Bool.{Bool, true, false, cond, true≢false}
 use mathlib.Core.List.{List}
 use mathlib.Core.Option.{some}
 use Prim.Native.Nat.{ℕ, zero, suc, _+_, _-_, _≤_, _<_}
@@ -17,7 +17,9 @@ use Rattle.wire.specs.Format.{Message}
 use Rattle.wire.specs.Reading.{number, flags, addressed, Read, bad, good, readFrame, refusalOf, messagesFrom}
 use Rattle.wire.proofs.Reading.{Readable}
 use Rattle.wire_read.specs.Finding.{headerOf}
+use Rattle.host.specs.declared.Answer.{Answer}
 use Rattle.host.specs.declared.Answer.the-variants.{Accepted, Again, NoMessages}
+use Rattle.host.specs.Host.{tookEffect}
 use Rattle.host_plain.specs.declared.PlainFrames.{PlainFrames}
 use Rattle.host_plain.specs.declared.PlainPair.{PlainPair}
 use Rattle.host_plain.specs.declared.PlainStepped.{PlainStepped}
@@ -28,6 +30,7 @@ use Rattle.host_plain.specs.Plain.{
   isSettled,
   runFrom,
   accepting,
+  Taken,
   allTaken,
   refusedAt,
   takeAll,
@@ -213,3 +216,42 @@ module _ (p : PlainPair) (f memory : List ℕ) (num : ℕ) (r : Outcome) (left :
       taken : takeAll (tally (p .transactions) memory noSums) ms
           ≡ allTaken (tally (r′ .t) (second .stored) (r′ .sums))
       taken = again ∙ go (eqb (r′ .refusal) 0) refl
+
+-- ---- a frame that is not accepted leaves the pair as it was
+
+module _ (p : PlainPair) (f memory : List ℕ) where
+  abbrev Unmoved : Received → Type 0
+  Unmoved r = tookEffect (r .answer) ≡ false → r .pair ≡ p
+
+  concluded-unmoved : (num : ℕ) (x : Taken) → Unmoved (concluded p memory num x)
+  concluded-unmoved num (allTaken t) e = absurd (true≢false e)
+  concluded-unmoved num (refusedAt r place) e = refl
+
+  by-number-unmoved : (num : ℕ) (ms : List Message) → Unmoved (byNumber p memory num ms)
+  unfolding byNumber
+  by-number-unmoved num ms = go (isSettled (p .frames) num) (leb 64 (pastNext (p .frames) num))
+    where
+      taken : Taken
+      taken = takeAll (tally (p .transactions) memory noSums) ms
+
+      again : Answer
+      again = Again (record { 0 = num }) (runFrom 255 (p .frames) num)
+
+      go : (a b : Bool)
+          → Unmoved (cond a (unchanged p memory again) (cond b (unchanged p memory (refusing 6 0))
+          (concluded p memory num taken)))
+      go true b e = refl
+      go false true e = refl
+      go false false e = concluded-unmoved num taken e
+
+  pub unmoved : tookEffect (receiveOf p f memory .answer) ≡ false → receiveOf p f memory .pair ≡ p
+  unfolding receiveOf
+  unmoved = go (readFrame (addressed (p .own) (p .peer) f) f)
+    where
+      go : (x : Read) → Unmoved (answered p f memory x)
+      go (bad r) e = refl
+      go (good ms) e = by (eqb (flags f) 0) e
+        where
+          by : (b : Bool) → Unmoved (cond b (unchanged p memory NoMessages) (byNumber p memory (number f) ms))
+          by true e = refl
+          by false e = by-number-unmoved (number f) ms e
