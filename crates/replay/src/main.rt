@@ -1,8 +1,9 @@
 // Replays a capture: standard input has a frame on every line, spelled in hexadecimal. It writes the answers of a
 // charging host of own ID 1 and peer 2, and last the totals. It feeds what it reads to the crate replay_feed, piece
-// by piece, and writes the text of what that answers; reading and writing are the crate replay_output's.
-// Where one of them fails, that is said on standard error and no totals are written: a program has no exit status, so
-// it is the last line that tells a whole replay.
+// by piece, and writes the text of what that answers; what a read brought, and writing, are the crate replay_output's.
+// Where reading or writing fails, that is said on standard error and no totals are written: a program has no exit
+// status, so it is the last line that tells a whole replay.
+use libc::STDIN_FILENO;
 use replay_output::Room;
 use replay_text::place;
 
@@ -53,7 +54,8 @@ fn read_all(
     let mut turns = u64::MAX;
     while turns > 0 {
         turns -= 1;
-        let got = replay_output::read_some(piece);
+        let said = libc::read(STDIN_FILENO, piece);
+        let got = replay_output::got_of(said, piece);
         if got.failed {
             return replay_output::stop(room, out);
         }

@@ -1,7 +1,6 @@
-// Input and output of the programs that replay: reading a piece, the buffer in which answers wait to be written, and
-// writing it. What is assumed is that read and write do what their pages say. What is read, and whether writing
-// succeeds, no rule says: there a promise only limits the result. All else it promises as specs/Output.antt says.
-use libc::STDIN_FILENO;
+// Input and output of the programs that replay: what the answer of a read means, the buffer in which answers wait to
+// be written, and writing it. Assumes that write does what its page says. It promises as specs/Output.antt says;
+// whether bytes that are there can be written is the operating system's to say, and no promise says it.
 use libc::STDOUT_FILENO;
 use replay_text::Reply;
 use replay_text::answer;
@@ -9,10 +8,9 @@ use replay_text::line;
 use replay_text::line::Totals;
 ghost use mathlib.Core.Path.{_≡_};
 ghost use mathlib.Core.List.{[], _∷_};
-ghost use Prim.Native.Nat.{_≤_};
 ghost use lib.ListN.{length};
 ghost use Rattle.replay_text.specs.AnswerLine.{lineEnd, withLine};
-ghost use Rattle.replay_output.specs.Output.{stopped, roomAfter, outAfter, Writes, Makes};
+ghost use Rattle.replay_output.specs.Output.{gotOf, stopped, roomAfter, outAfter, Writes, Makes};
 
 // How much of the output buffer is used, and whether reading or writing failed, or an answer was lost.
 pub struct Room {
@@ -26,13 +24,11 @@ pub struct Got {
     pub failed: bool,
 }
 
-// Reads once. What comes, and whether it fails, is the operating system's to say.
-pub fn read_some(piece: &mut [u8]) -> Got
-    ensures { λ r. ⌜ r .count ≤ length (now (piece .entry)) ⌝ }
-    ensures { λ _. ⌜ length (now (piece .exit)) ≡ length (now (piece .entry)) ⌝ }
+// What the operating system's answer to a read into this piece means. A failure is said on standard error.
+pub fn got_of(said: isize, piece: &[u8]) -> Got
+    ensures { λ r. ⌜ r ≡ gotOf said (length (now (piece .entry))) ⌝ }
 {
-    let got = libc::read(STDIN_FILENO, piece);
-    if got < 0 {
+    if said < 0 {
         os::fail(b"read");
         return Got {
             count: 0,
@@ -40,15 +36,19 @@ pub fn read_some(piece: &mut [u8]) -> Got
         };
     }
     Got {
-        count: io::count(got, piece),
+        count: io::count(said, piece),
         failed: false,
     }
 }
 
-// Writes the used part of the output buffer, and answers whether it could, which is the operating system's to say.
+// Writes the used part of the output buffer, and answers whether all of it is written. Where there is something to
+// write, that is the operating system's to say.
 pub fn write_out(out: &[u8], used: usize) -> bool
     ensures { λ r. ⌜ Writes (now (out .entry)) used r ⌝ }
 {
+    if used == 0 {
+        return true;
+    }
     if used <= out.len() {
         if io::write_all(STDOUT_FILENO, &out[..used]) {
             return true;
@@ -59,7 +59,7 @@ pub fn write_out(out: &[u8], used: usize) -> bool
 }
 
 // The output buffer emptied where the next line might not fit. After a failure nothing more is written, so that the
-// output has no gap. Whether writing fails is the operating system's to say.
+// output has no gap. Whether writing fails is what write_out says.
 pub fn make_room(out: &[u8], used: usize, failed: bool) -> Room
     ensures { λ r. ⌜ Makes (now (out .entry)) used failed r ⌝ }
 {

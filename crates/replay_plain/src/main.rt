@@ -1,9 +1,10 @@
 // The sister of the program replay, which runs the plain host: the same input and the same output. It feeds what it
-// reads to the crate replay_plain_feed, piece by piece, and writes the text of what that answers; reading and writing
-// are the crate replay_output's, as the first program's are.
-// Where one of them fails, that is said on standard error and no totals are written: a program has no exit status, so
-// it is the last line that tells a whole replay.
+// reads to the crate replay_plain_feed, piece by piece, and writes the text of what that answers; what a read brought,
+// and writing, are the crate replay_output's, as the first program's are.
+// Where reading or writing fails, that is said on standard error and no totals are written: a program has no exit
+// status, so it is the last line that tells a whole replay.
 use host_plain::PlainPair;
+use libc::STDIN_FILENO;
 use replay_output::Room;
 use replay_text::place;
 
@@ -64,7 +65,8 @@ fn read_all(
     let mut turns = u64::MAX;
     while turns > 0 {
         turns -= 1;
-        let got = replay_output::read_some(piece);
+        let said = libc::read(STDIN_FILENO, piece);
+        let got = replay_output::got_of(said, piece);
         if got.failed {
             let room = replay_output::stop(room, out);
             return Reached { pair, room };

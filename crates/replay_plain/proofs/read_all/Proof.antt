@@ -4,12 +4,14 @@ use mathlib.Core.Path.{_≡_, sym, _∙_}
 use native.Mathlib.Omega.{arith}
 use lib.ListN.{length}
 use lib.Seq.{length-take-le}
+use Rattle.replay_output.proofs.Getting.{got-within}
 use borrow.Author.Needs.{needs}
 use Rattle.replay_plain.proofs.read_all.Statement.{statement}
 use Rattle.replay_plain.proofs.read_all.Tie as tie
 use Rattle.replay_plain.proofs.read_all.Reads as reads
 use Rattle.replay_plain.proofs.read_all.Lts as lts
-use Rattle.replay_output.proofs.read_some.Reads as read-some-reads
+use Rattle.libc.proofs.read.Reads as read-reads
+use Rattle.replay_output.proofs.got_of.Reads as got-of-reads
 use Rattle.replay_output.proofs.stop.Reads as stop-reads
 use Rattle.replay_text.proofs.place.is_full.Reads as is-full-reads
 use Rattle.replay_plain.proofs.take_piece.Reads as take-piece-reads
@@ -27,8 +29,11 @@ loop-holds c = search needs
 sub-turns : tie.Need-sub-turns Inv-loop μ-loop
 sub-turns c = search needs
 
-read-some-requires : tie.Need-read-some-requires Inv-loop μ-loop
-read-some-requires c κs = search needs
+read-requires : tie.Need-read-requires Inv-loop μ-loop
+read-requires c κs = search needs
+
+got-of-requires : tie.Need-got-of-requires Inv-loop μ-loop
+got-of-requires c κs = search needs
 
 stop-requires : tie.Need-stop-requires Inv-loop μ-loop
 stop-requires c κs = search needs
@@ -52,27 +57,28 @@ returns-2 : tie.Need-returns-2 Inv-loop μ-loop
 returns-2 c = search needs
 
 slice-reshare-prefix-take-piece : tie.Need-slice-reshare-prefix-take-piece Inv-loop μ-loop
-slice-reshare-prefix-take-piece c = search needs
+slice-reshare-prefix-take-piece c = got-within _ _ _ (c .before .before .before .got-of .ensures)
 
 slice-aggregate-take-piece : tie.Need-slice-aggregate-take-piece Inv-loop μ-loop
 slice-aggregate-take-piece c =
-    let got = (c .before .before .before .before .before .before) .read-some in
-    sym (length-take-le _ _ (omega (arith, got .ensures .0, got .ensures .1)))
+    sym (length-take-le _ _ (got-within _ _ _ (c .before .before .before .before .got-of .ensures)))
 
 take-piece-requires : tie.Need-take-piece-requires Inv-loop μ-loop
 take-piece-requires c κs = search needs
 
 same-length-5 : tie.Need-same-length-5 Inv-loop μ-loop
 same-length-5 c =
-    let lent = c .before .before .before .before .before .before .before .before in
-    let got = lent .before .before .before .before .before .before .before .before in
-    got .read-some .ensures .1 ∙ got .before .before .before .loop .inv .0
+    let taken = c .before .before .before .before .before in
+    let lent = taken .before .before .before .before .before in
+    let read = lent .before .before .before .before .before .before .before .before in
+    read .read .kept .1 .0 ∙ read .before .before .before .loop .inv .0
 
 same-length-6 : tie.Need-same-length-6 Inv-loop μ-loop
 same-length-6 c =
     let taken = c .before .before .before .before .before in
-    let lent = taken .before .before .before .before .before .before .before .before .before in
-    taken .take-piece .kept .1 .1 .1 .1 .1 .0 ∙ lent .before .before .before .before .before .loop .inv .1
+    let lent = taken .before .before .before .before .before in
+    let begun = lent .before .before .before .before .before .before .before .before .before .before .before in
+    taken .take-piece .kept .1 .1 .1 .1 .1 .0 ∙ begun .loop .inv .1
 
 returns-3 : tie.Need-returns-3 Inv-loop μ-loop
 returns-3 c = search needs
@@ -84,28 +90,33 @@ same-length-7 : tie.Need-same-length-7 Inv-loop μ-loop
 same-length-7 c =
     let taken = c .before .before .before .before .before .before .before .before in
     let lent = taken .before .before .before .before .before in
-    let got = lent .before .before .before .before .before .before in
-    got .read-some .ensures .1 ∙ got .before .before .before .loop .inv .0
+    let read = lent .before .before .before .before .before .before .before .before in
+    read .read .kept .1 .0 ∙ read .before .before .before .loop .inv .0
 
 same-length-8 : tie.Need-same-length-8 Inv-loop μ-loop
 same-length-8 c =
     let taken = c .before .before .before .before .before .before .before .before in
-    let lent = taken .before .before .before .before .before .before .before .before .before in
-    taken .take-piece .kept .1 .1 .1 .1 .1 .0 ∙ lent .before .before .before .before .before .loop .inv .1
+    let lent = taken .before .before .before .before .before in
+    let begun = lent .before .before .before .before .before .before .before .before .before .before .before in
+    taken .take-piece .kept .1 .1 .1 .1 .1 .0 ∙ begun .loop .inv .1
 
 returns-4 : tie.Need-returns-4 Inv-loop μ-loop
 returns-4 c = search needs
 
 loop-less : tie.Need-loop-less Inv-loop μ-loop
-loop-less c = search needs
+loop-less c =
+    let taken = c .before .before .before .before .before .before .before .before in
+    let lent = taken .before .before .before .before .before in
+    let begun = lent .before .before .before .before .before .before .before .before .before .before in
+    omega (arith, begun .loop-test .taken)
 
 loop-again : tie.Need-loop-again Inv-loop μ-loop
 loop-again c =
     let taken = c .before .before .before .before .before .before .before .before in
     let lent = taken .before .before .before .before .before in
-    let got = lent .before .before .before .before .before .before in
-    let begun = got .before .before .before in (
-      got .read-some .ensures .1 ∙ begun .loop .inv .0,
+    let read = lent .before .before .before .before .before .before .before .before in
+    let begun = read .before .before .before in (
+      read .read .kept .1 .0 ∙ begun .loop .inv .0,
       taken .take-piece .kept .1 .1 .1 .1 .1 .0 ∙ begun .loop .inv .1,
     )
 
@@ -126,7 +137,8 @@ read-all-spec =
     μ-loop
     loop-holds
     sub-turns
-    read-some-requires
+    read-requires
+    got-of-requires
     stop-requires
     same-length
     same-length-2
