@@ -27,9 +27,10 @@ fn take_effect(words: &mut [u64], memory: &mut [u8], h: MessageHeader, payload: 
     ensures { λ _. ⌜ TakesEffect (now (words .entry)) (now (memory .entry)) h (now (payload .entry)) (now (words .exit))
         (now (memory .exit)) ⌝ }
 {
-    let o = host_words::entry(words, h.trans.0);
+    let number = h.trans;
+    let o = host_words::entry(words, number);
     write_message(memory, h, payload, verdict::completes(o, h));
-    update::put_entry(words, h.trans.0, verdict::left_in(o, h));
+    update::put_entry(words, number, verdict::left_in(o, h));
 }
 
 // The first n messages of a frame take effect, or as many as it has.

@@ -105,34 +105,34 @@ fn passed(c: Counts, lowest: TransNo, closed: u32) -> Validated
 }
 
 // The entry as the frame's messages so far leave it.
-fn current_entry(words: &[u64], kept: &[u64], changed: u32, number: u32) -> Open
-    ensures { λ r. ⌜ r ≡ current (now (words .entry)) (now (kept .entry)) changed (number % 32) ⌝ }
+fn current_entry(words: &[u64], kept: &[u64], changed: u32, number: TransNo) -> Open
+    ensures { λ r. ⌜ r ≡ current (now (words .entry)) (now (kept .entry)) changed (number .0 % 32) ⌝ }
 {
-    if word32::is_marked(changed, number % 32) {
+    if word32::is_marked(changed, number.0 % 32) {
         return host_words::entry(kept, number);
     }
     host_words::entry(words, number)
 }
 
 // Keeps the entry that a message leaves, and marks it as changed.
-fn note(kept: &mut [u64], changed: u32, number: u32, v: Verdict) -> u32
-    ensures { λ r. ⌜ Notes (now (kept .entry)) changed (number % 32) v (now (kept .exit)) r ⌝ }
+fn note(kept: &mut [u64], changed: u32, number: TransNo, v: Verdict) -> u32
+    ensures { λ r. ⌜ Notes (now (kept .entry)) changed (number .0 % 32) v (now (kept .exit)) r ⌝ }
 {
     let left = v.entry;
     update::put_entry(kept, number, left);
-    word32::with_mark(changed, number % 32)
+    word32::with_mark(changed, number.0 % 32)
 }
 
 // The marks of changed entries after a message, which leaves one unmarked that was empty and is empty again.
-fn marked(changed: u32, number: u32, o: Open, done: bool) -> u32
-    ensures { λ r. ⌜ Marks changed (number % 32) o done r ⌝ }
+fn marked(changed: u32, number: TransNo, o: Open, done: bool) -> u32
+    ensures { λ r. ⌜ Marks changed (number .0 % 32) o done r ⌝ }
 {
     if done {
         if o.received == 0 {
             return changed;
         }
     }
-    word32::with_mark(changed, number % 32)
+    word32::with_mark(changed, number.0 % 32)
 }
 
 // Judges a frame's messages for a memory of size bytes, up to the first that is refused or passes the end (5), or that
@@ -153,8 +153,8 @@ fn find_apart(words: &[u64], f: &[u8], size: usize) -> Validated
         match found {
             Found::PastEnd => return refused_at(refusal::PAST_FRAME_END, counts.messages),
             Found::Whole(h, len, more, next) => {
-                let number = h.trans.0;
-                if word32::is_marked(changed, number % 32) {
+                let number = h.trans;
+                if word32::is_marked(changed, number.0 % 32) {
                     return refused_at(MET_AGAIN, 0);
                 }
                 let o = host_words::entry(words, number);
@@ -193,7 +193,7 @@ fn find_kept(words: &[u64], kept: &mut [u64], f: &[u8], size: usize) -> Validate
         match found {
             Found::PastEnd => return refused_at(refusal::PAST_FRAME_END, counts.messages),
             Found::Whole(h, len, more, next) => {
-                let number = h.trans.0;
+                let number = h.trans;
                 let o = current_entry(words, kept, changed, number);
                 let v = verdict::judge(lowest, closed, o, h, len, size);
                 if v.refusal != 0 {

@@ -10,13 +10,13 @@ use Rattle.host_store.specs.declared.restore.Line.{Line}
 use Rattle.host_store.specs.declared.restore.Lines.{Lines}
 
 abbrev pub badLine : Line
-badLine = record { fine = false; number = 0; entry = free }
+badLine = record { fine = false; number = record { 0 = 0 }; entry = free }
 
 abbrev pub lineOf : ℕ → ℕ → ℕ → Option (List ℕ) → Line
 lineOf lowest closed least none = badLine
 lineOf lowest closed least (some xs) =
     cond (openFine lowest closed least (numberIn xs) (openIn xs))
-    (record { fine = true; number = numberIn xs; entry = openIn xs })
+    (record { fine = true; number = record { 0 = numberIn xs }; entry = openIn xs })
     badLine
 
 unfoldable pub badLines : Lines

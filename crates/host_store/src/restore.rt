@@ -41,7 +41,7 @@ ghost use Rattle.host_store.specs.Restoring.{Restores};
 // An open transaction's line: whether it is fine, its number and its entry of the table; zeros where it is not.
 pub struct Line {
     pub fine: bool,
-    pub number: u32,
+    pub number: TransNo,
     pub entry: Open,
 }
 
@@ -179,7 +179,7 @@ fn is_open_fine(lowest: TransNo, closed: u32, least: u32, number: TransNo, o: Op
 
 const BAD_LINE: Line = Line {
     fine: false,
-    number: 0,
+    number: TransNo(0),
     entry: host::FREE,
 };
 
@@ -192,9 +192,9 @@ fn read_open(text: &[u8], at: usize, lowest: TransNo, closed: u32, least: u32) -
     if !read_bytes(text, at, &mut bytes) {
         return BAD_LINE;
     }
-    let number = number_in(&bytes, 0, 4) as u32;
+    let number = TransNo(number_in(&bytes, 0, 4) as u32);
     let entry = open_in(&bytes);
-    if !is_open_fine(lowest, closed, least, TransNo(number), entry) {
+    if !is_open_fine(lowest, closed, least, number, entry) {
         return BAD_LINE;
     }
     Line {
@@ -229,10 +229,11 @@ fn read_opens(text: &[u8], lowest: TransNo, closed: u32) -> Lines
         if !line.fine {
             return bad_lines();
         }
-        let s = (line.number % 32) as usize;
+        let number = line.number;
+        let s = (number.0 % 32) as usize;
         let entry = line.entry;
         table[s] = entry;
-        least = TransNo(line.number).distance(lowest) + 1;
+        least = number.distance(lowest) + 1;
         at += OPEN;
     }
     Lines { fine: true, table }

@@ -6,6 +6,7 @@ use host_stored::OPEN;
 use host_stored::Stored;
 use host_stored::VERSION;
 use host_words::describe;
+use seq::TransNo;
 ghost use mathlib.Core.Path.{_≡_};
 ghost use mathlib.Core.List.{[], _∷_, _++_};
 ghost use Prim.Native.Nat.{_+_, _*_, _≤_, _<_};
@@ -90,18 +91,19 @@ fn head_bytes(words: &[u64]) -> [u8; 23]
     ]
 }
 
-fn open_bytes(number: u32, o: Open) -> [u8; 16]
-    ensures { λ r. ⌜ r ≡ laid openWidths (openOf number o) ⌝ }
+fn open_bytes(number: TransNo, o: Open) -> [u8; 16]
+    ensures { λ r. ⌜ r ≡ laid openWidths (openOf (number .0) o) ⌝ }
 {
+    let n = number.0;
     let address = o.address;
     let value = o.value;
     let count = o.count;
     let received = o.received;
     [
-        (number % 256) as u8,
-        (number / 256 % 256) as u8,
-        (number / 256 / 256 % 256) as u8,
-        (number / 256 / 256 / 256 % 256) as u8,
+        (n % 256) as u8,
+        (n / 256 % 256) as u8,
+        (n / 256 / 256 % 256) as u8,
+        (n / 256 / 256 / 256 % 256) as u8,
         (address % 256) as u8,
         (address / 256 % 256) as u8,
         (address / 256 / 256 % 256) as u8,

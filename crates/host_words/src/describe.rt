@@ -1,6 +1,7 @@
 // A pair in lent words described for its owner: IDs, windows, and the open transactions nearest the lowest one first.
 // Assumes nothing of the words. It promises specs/Describing.antt, description, of the pair that they hold.
 use host::Open;
+use seq::TransNo;
 ghost use mathlib.Core.Path.{_≡_};
 ghost use Prim.Native.Nat.{_<_, _≤_, _+_, _*_};
 ghost use lib.ListN.{length};
@@ -17,11 +18,11 @@ ghost use Rattle.host_words.specs.Describing.{
 };
 
 // The number of the transaction j past the lowest one.
-pub fn number_at(words: &[u64], j: u32) -> u32
-    ensures { λ r. ⌜ r ≡ numberAt (pairOf (now (words .entry))) j ⌝ }
+pub fn number_at(words: &[u64], j: u32) -> TransNo
+    ensures { λ r. ⌜ r .0 ≡ numberAt (pairOf (now (words .entry))) j ⌝ }
 {
     let lowest = crate::lowest(words);
-    lowest.advance(j).0
+    lowest.advance(j)
 }
 
 // Its entry.
@@ -49,11 +50,11 @@ pub fn count_open(words: &[u64]) -> u32
 }
 
 // Stores the five words of an open transaction.
-fn put_five(out: &mut [u64], at: usize, number: u32, o: Open)
+fn put_five(out: &mut [u64], at: usize, number: TransNo, o: Open)
     requires { ⌜ at + 5 ≤ length (now out) ⌝ }
-    ensures { λ _. ⌜ now (out .exit) ≡ sets (now (out .entry)) at (five number o) ⌝ }
+    ensures { λ _. ⌜ now (out .exit) ≡ sets (now (out .entry)) at (five (number .0) o) ⌝ }
 {
-    out[at] = number as u64;
+    out[at] = number.0 as u64;
     out[at + 1] = o.address as u64;
     out[at + 2] = o.value as u64;
     out[at + 3] = o.count as u64;

@@ -78,10 +78,10 @@ pub fn open_of(terms: u64, counts: u64) -> Open
 }
 
 // The entry of the transaction with this number, which modulo 32 chooses it.
-pub fn entry(w: &[u64], number: u32) -> Open
-    ensures { λ r. ⌜ r ≡ entryOf (now (w .entry)) (number % 32) ⌝ }
+pub fn entry(w: &[u64], number: TransNo) -> Open
+    ensures { λ r. ⌜ r ≡ entryOf (now (w .entry)) (number .0 % 32) ⌝ }
 {
-    let s = (number % 32) as usize;
+    let s = (number.0 % 32) as usize;
     let terms = words::word(w, 3 + 2 * s);
     let counts = words::word(w, 4 + 2 * s);
     open_of(terms, counts)

@@ -16,7 +16,7 @@ fn table_of(w: &[u64]) -> [Open; 32]
 {
     let mut table = [host::FREE; 32];
     for i in 0..32usize {
-        table[i] = crate::entry(w, i as u32);
+        table[i] = crate::entry(w, TransNo(i as u32));
     }
     table
 }
@@ -42,7 +42,7 @@ fn put_table(w: &mut [u64], table: [Open; 32])
 {
     for i in 0..32usize {
         let o = table[i];
-        update::put_entry(w, i as u32, o);
+        update::put_entry(w, TransNo(i as u32), o);
     }
 }
 

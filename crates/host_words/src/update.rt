@@ -3,16 +3,17 @@
 // (specs/Updating.antt).
 use crate::Head;
 use host::Open;
+use seq::TransNo;
 ghost use mathlib.Core.Path.{_≡_};
 ghost use Prim.Native.Nat.{_%_};
 ghost use Rattle.host_words.specs.Updating.{withEntry, withHead, HoldsEntry, HoldsHead};
 
 // Sets the entry of the transaction with this number.
-pub fn put_entry(w: &mut [u64], number: u32, o: Open)
-    ensures { λ _. ⌜ now (w .exit) ≡ withEntry (now (w .entry)) (number % 32) o ⌝ }
-    ensures { λ _. ⌜ HoldsEntry (now (w .entry)) (now (w .exit)) (number % 32) o ⌝ }
+pub fn put_entry(w: &mut [u64], number: TransNo, o: Open)
+    ensures { λ _. ⌜ now (w .exit) ≡ withEntry (now (w .entry)) (number .0 % 32) o ⌝ }
+    ensures { λ _. ⌜ HoldsEntry (now (w .entry)) (now (w .exit)) (number .0 % 32) o ⌝ }
 {
-    let s = (number % 32) as usize;
+    let s = (number.0 % 32) as usize;
     let terms = words::of_halves(o.address, o.value);
     let counts = words::of_quarters(o.count, o.received, 0, 0);
     words::put(w, 3 + 2 * s, terms);

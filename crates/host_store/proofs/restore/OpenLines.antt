@@ -57,7 +57,7 @@ module _ (lowest closed least : ℕ) (o : Option (List ℕ)) where
     pub bad-line : t ≡ false → badLine ≡ lineOf lowest closed least o
     bad-line z = rw (e, tested, z)
 
-    pub good-line : t ≡ true → record { fine = true; number = number; entry = entry } ≡ lineOf lowest closed least o
+    pub good-line : t ≡ true → record { fine = true; number = record { 0 = number }; entry = entry } ≡ lineOf lowest closed least o
     unfolding numbersFrom
     good-line z = rw (e, tested, z, n, p)
 
@@ -66,7 +66,7 @@ pub record Fine (lowest closed least : ℕ) (o : Option (List ℕ)) (l : Line) :
   pub numbers : List ℕ
   pub read : o ≡ some numbers
   pub tested : openFine lowest closed least (numberIn numbers) (openIn numbers) ≡ true
-  pub number-is : l .number ≡ numberIn numbers
+  pub number-is : l .number .0 ≡ numberIn numbers
   pub entry-is : l .entry ≡ openIn numbers
 
 pub line-fine : (lowest closed least : ℕ) (o : Option (List ℕ)) (l : Line) → l ≡ lineOf lowest closed least o
@@ -78,13 +78,13 @@ line-fine lowest closed least none l e t =
 line-fine lowest closed least (some xs) l e t = go (openFine lowest closed least (numberIn xs) (openIn xs)) refl e
   where
     go : (b : Bool) → openFine lowest closed least (numberIn xs) (openIn xs) ≡ b
-        → l ≡ cond b (record { fine = true; number = numberIn xs; entry = openIn xs }) badLine
+        → l ≡ cond b (record { fine = true; number = record { 0 = numberIn xs }; entry = openIn xs }) badLine
         → Fine lowest closed least (some xs) l
     go true q w = record {
       numbers = xs;
       read = refl;
       tested = q;
-      number-is = ap (λ (l : Line). l .number) w;
+      number-is = ap (λ (l : Line). l .number .0) w;
       entry-is = ap (λ (l : Line). l .entry) w;
     }
     go false q w =
@@ -119,7 +119,7 @@ from-bad lowest closed least table (some xs) none l e f = refl
 from-bad lowest closed least table (some xs) (some lines) l e f =
     go (openFine lowest closed least (numberIn xs) (openIn xs)) e
   where
-    go : (b : Bool) → l ≡ cond b (record { fine = true; number = numberIn xs; entry = openIn xs }) badLine
+    go : (b : Bool) → l ≡ cond b (record { fine = true; number = record { 0 = numberIn xs }; entry = openIn xs }) badLine
         → cond (b && opensFine lowest closed (suc (distance transSpace lowest (numberIn xs))) lines)
         (record { fine = true; table = tableFrom table (xs ∷ lines) }) badLines ≡ badLines
     go true w =
@@ -187,13 +187,13 @@ module _ {text : List ℕ} {lowest closed : ℕ} {table : List Open} {least at :
         fine : Fine lowest closed least (readLine openWidths (drop at text)) line
         fine = line-fine lowest closed least (readLine openWidths (drop at text)) line e f
 
-        pub left-inside : distance transSpace lowest (line .number) < 32
+        pub left-inside : distance transSpace lowest (line .number .0) < 32
         left-inside =
             rw (fine .number-is)
             (fine-line lowest closed least (numberIn (fine .numbers)) (openIn (fine .numbers)) (fine .tested) .inside)
 
-        pub left-turn : (d : ℕ) → d ≡ distance transSpace lowest (line .number)
-            → Left text lowest closed (set table (line .number % 32) (line .entry)) (d + 1) (at + 33)
+        pub left-turn : (d : ℕ) → d ≡ distance transSpace lowest (line .number .0)
+            → Left text lowest closed (set table (line .number .0 % 32) (line .entry)) (d + 1) (at + 33)
         left-turn d q =
             let rest : Option (List (List ℕ)) = readLines (l .lines - 1) openWidths (drop (at + 33) text) in
             record {
@@ -203,7 +203,7 @@ module _ {text : List ℕ} {lowest closed : ℕ} {table : List Open} {least at :
                   l .is ∙ ap (linesFrom lowest closed least table)
                   (next ∙ ap (λ (o : Option (List ℕ)). followed o rest) (fine .read))
                   ∙ from-fine lowest closed least table (fine .numbers) rest (fine .tested)
-                  ∙ moved lowest closed table rest d (line .number) (numberIn (fine .numbers)) (line .entry)
+                  ∙ moved lowest closed table rest d (line .number .0) (numberIn (fine .numbers)) (line .entry)
                   (openIn (fine .numbers)) q
                   (fine .number-is) (fine .entry-is);
             }

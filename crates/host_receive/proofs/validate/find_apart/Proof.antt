@@ -109,9 +109,9 @@ refused-at-requires-4 c κs = search needs
 returns-4 : tie.Need-returns-4 Inv-loop μ-loop
 returns-4 c =
     let judged = c .before .before .before in
-    let looped = judged .before .before .before .before .before .before .before .before in
+    let looped = judged .before .before .before .before .before .before .before .before .before .before in
     let k = looped .loop .inv in
-    let seen = judged .before .before .before .before .before in
+    let seen = judged .before .before .before .before .before .before .before in
     let x = is-whole (sym (seen .before .before .message-at .ensures) ∙ seen .found .given .1) in
     let clear = sym (judged .before .before .before .is-marked .ensures) ∙ judged .before .before .if2 .left in
     let w = looped .before .before .before .before .before .before .args .words .now in
@@ -125,7 +125,7 @@ marked-requires c κs = search needs
 counted-requires : tie.Need-counted-requires Inv-loop μ-loop
 counted-requires c κs =
     let judged = c .before .before .before in
-    let k = judged .before .before .before .before .before .before .before .before .loop .inv .0 in
+    let k = judged .before .before .before .before .before .before .before .before .before .before .loop .inv .0 in
     (omega (arith, k), omega (arith, k), omega (arith, k))
 
 passed-requires : tie.Need-passed-requires Inv-loop μ-loop
@@ -134,9 +134,9 @@ passed-requires c κs = search needs
 returns-5 : tie.Need-returns-5 Inv-loop μ-loop
 returns-5 c =
     let judged = c .before .before .before .before .before .before in
-    let looped = judged .before .before .before .before .before .before .before .before in
+    let looped = judged .before .before .before .before .before .before .before .before .before .before in
     let k = looped .loop .inv in
-    let seen = judged .before .before .before .before .before in
+    let seen = judged .before .before .before .before .before .before .before in
     let x = is-whole (sym (seen .before .before .message-at .ensures) ∙ seen .found .given .1) in
     let clear = sym (judged .before .before .before .is-marked .ensures) ∙ judged .before .before .if2 .left in
     let w = looped .before .before .before .before .before .before .args .words .now in
@@ -148,16 +148,16 @@ returns-5 c =
 loop-less : tie.Need-loop-less Inv-loop μ-loop
 loop-less c =
     let judged = c .before .before .before .before .before in
-    let seen = judged .before .before .before .before .before in
+    let seen = judged .before .before .before .before .before .before .before in
     let x = is-whole (sym (seen .before .before .message-at .ensures) ∙ seen .found .given .1) in
-    omega (arith, judged .before .before .before .before .before .before .before .before .loop .inv .0, x)
+    omega (arith, judged .before .before .before .before .before .before .before .before .before .before .loop .inv .0, x)
 
 loop-again : tie.Need-loop-again Inv-loop μ-loop
 loop-again c =
     let judged = c .before .before .before .before .before in
-    let looped = judged .before .before .before .before .before .before .before .before in
+    let looped = judged .before .before .before .before .before .before .before .before .before .before in
     let k = looped .loop .inv in
-    let seen = judged .before .before .before .before .before in
+    let seen = judged .before .before .before .before .before .before .before in
     let x = is-whole (sym (seen .before .before .message-at .ensures) ∙ seen .found .given .1) in
     let clear = sym (judged .before .before .before .is-marked .ensures) ∙ judged .before .before .if2 .left in
     let w = looped .before .before .before .before .before .before .args .words .now in

@@ -101,14 +101,14 @@ refused-at-requires-3 c κs = search needs
 same-length-2 : tie.Need-same-length-2 Inv-loop μ-loop
 same-length-2 c =
     let judged = c .before .before .before in
-    judged .before .before .before .before .before .before .before .loop .inv .1
+    judged .before .before .before .before .before .before .before .before .loop .inv .1
 
 returns-3 : tie.Need-returns-3 Inv-loop μ-loop
 returns-3 c =
     let judged = c .before .before .before in
-    let looped = judged .before .before .before .before .before .before .before in
+    let looped = judged .before .before .before .before .before .before .before .before in
     let k = looped .loop .inv in
-    let seen = judged .before .before .before .before in
+    let seen = judged .before .before .before .before .before in
     let x = is-whole (sym (seen .before .before .message-at .ensures) ∙ seen .found .given .1) in
     c .refused-at3 .ensures
     ∙ walking-stops (k .2) x (λ m. k .1 ∙ looped .before .before .before .before .before .before .before .pre)
@@ -120,7 +120,7 @@ note-requires c κs = search needs
 counted-requires : tie.Need-counted-requires Inv-loop μ-loop
 counted-requires c κs =
     let judged = c .before .before .before .before .before .before in
-    let k = judged .before .before .before .before .before .before .before .loop .inv .0 in
+    let k = judged .before .before .before .before .before .before .before .before .loop .inv .0 in
     (omega (arith, k), omega (arith, k), omega (arith, k))
 
 passed-requires : tie.Need-passed-requires Inv-loop μ-loop
@@ -130,14 +130,14 @@ same-length-3 : tie.Need-same-length-3 Inv-loop μ-loop
 same-length-3 c =
     let judged = c .before .before .before .before .before .before .before .before .before in
     c .before .before .before .before .before .note .kept .0
-    ∙ judged .before .before .before .before .before .before .before .loop .inv .1
+    ∙ judged .before .before .before .before .before .before .before .before .loop .inv .1
 
 returns-4 : tie.Need-returns-4 Inv-loop μ-loop
 returns-4 c =
     let judged = c .before .before .before .before .before .before .before .before .before in
-    let looped = judged .before .before .before .before .before .before .before in
+    let looped = judged .before .before .before .before .before .before .before .before in
     let k = looped .loop .inv in
-    let seen = judged .before .before .before .before in
+    let seen = judged .before .before .before .before .before in
     let x = is-whole (sym (seen .before .before .message-at .ensures) ∙ seen .found .given .1) in
     let q = rw (c .before .before .counted .ensures) at (c .passed .ensures) in
     q ∙ walking-ends (k .2) x (λ m. k .1 ∙ looped .before .before .before .before .before .before .before .pre)
@@ -147,16 +147,16 @@ returns-4 c =
 loop-less : tie.Need-loop-less Inv-loop μ-loop
 loop-less c =
     let judged = c .before .before .before .before .before .before .before .before in
-    let seen = judged .before .before .before .before in
+    let seen = judged .before .before .before .before .before in
     let x = is-whole (sym (seen .before .before .message-at .ensures) ∙ seen .found .given .1) in
-    omega (arith, judged .before .before .before .before .before .before .before .loop .inv .0, x)
+    omega (arith, judged .before .before .before .before .before .before .before .before .loop .inv .0, x)
 
 loop-again : tie.Need-loop-again Inv-loop μ-loop
 loop-again c =
     let judged = c .before .before .before .before .before .before .before .before in
-    let looped = judged .before .before .before .before .before .before .before in
+    let looped = judged .before .before .before .before .before .before .before .before in
     let k = looped .loop .inv in
-    let seen = judged .before .before .before .before in
+    let seen = judged .before .before .before .before .before in
     let x = is-whole (sym (seen .before .before .message-at .ensures) ∙ seen .found .given .1) in
     let noted = c .before .before .before .before .note in
     rw (c .before .counted .ensures) (

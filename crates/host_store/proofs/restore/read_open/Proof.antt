@@ -31,8 +31,8 @@ slice-aggregate-number-in c = search needs
 number-in-requires : tie.Need-number-in-requires
 number-in-requires c κs = search needs
 
-cast-number : tie.Need-cast-number
-cast-number c = search needs
+cast-t18 : tie.Need-cast-t18
+cast-t18 c = search needs
 
 slice-aggregate-open-in : tie.Need-slice-aggregate-open-in
 slice-aggregate-open-in c = search needs
@@ -70,7 +70,7 @@ read-open-spec =
     returns
     slice-aggregate-number-in
     number-in-requires
-    cast-number
+    cast-t18
     slice-aggregate-open-in
     open-in-requires
     is-open-fine-requires

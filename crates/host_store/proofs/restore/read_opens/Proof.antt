@@ -77,10 +77,10 @@ add-least c =
       arith,
       c .distance .ensures,
       left-inside
-          (c .before .before .before .before .before .before .before .loop .inv)
-          (c .before .before .before .before .before .before .loop-test .taken) _
-          (c .before .before .before .before .before .read-open .ensures)
-          (not-false _ (c .before .before .before .if2 .left)),
+          (c .before .before .before .before .before .before .before .before .loop .inv)
+          (c .before .before .before .before .before .before .before .loop-test .taken) _
+          (c .before .before .before .before .before .before .read-open .ensures)
+          (not-false _ (c .before .before .before .before .if2 .left)),
     )
 
 add-at : tie.Need-add-at Inv-loop μ-loop
@@ -91,10 +91,10 @@ loop-less c = search needs
 
 loop-again : tie.Need-loop-again Inv-loop μ-loop
 loop-again c =
-    left-turn (c .before .before .before .before .before .before .before .loop .inv)
-    (c .before .before .before .before .before .before .loop-test .taken) _
-    (c .before .before .before .before .before .read-open .ensures)
-    (not-false _ (c .before .before .before .if2 .left)) _ (c .distance .ensures)
+    left-turn (c .before .before .before .before .before .before .before .before .loop .inv)
+    (c .before .before .before .before .before .before .before .loop-test .taken) _
+    (c .before .before .before .before .before .before .read-open .ensures)
+    (not-false _ (c .before .before .before .before .if2 .left)) _ (c .distance .ensures)
 
 returns-3 : tie.Need-returns-3 Inv-loop μ-loop
 returns-3 c = left-end (c .before .loop .inv) (c .loop-test .left)

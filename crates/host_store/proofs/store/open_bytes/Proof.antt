@@ -9,53 +9,53 @@ use Rattle.host_store.proofs.store.open_bytes.Tie as tie
 use Rattle.host_store.proofs.store.open_bytes.Reads as reads
 use Rattle.host_store.proofs.store.open_bytes.Lts as lts
 
-cast-t8 : tie.Need-cast-t8
-cast-t8 c = byte-fits _
+cast-t9 : tie.Need-cast-t9
+cast-t9 c = byte-fits _
 
-cast-t11 : tie.Need-cast-t11
-cast-t11 c = byte-fits _
+cast-t12 : tie.Need-cast-t12
+cast-t12 c = byte-fits _
 
-cast-t15 : tie.Need-cast-t15
-cast-t15 c = byte-fits _
+cast-t16 : tie.Need-cast-t16
+cast-t16 c = byte-fits _
 
-cast-t20 : tie.Need-cast-t20
-cast-t20 c = byte-fits _
+cast-t21 : tie.Need-cast-t21
+cast-t21 c = byte-fits _
 
-cast-t22 : tie.Need-cast-t22
-cast-t22 c = byte-fits _
+cast-t23 : tie.Need-cast-t23
+cast-t23 c = byte-fits _
 
-cast-t25 : tie.Need-cast-t25
-cast-t25 c = byte-fits _
+cast-t26 : tie.Need-cast-t26
+cast-t26 c = byte-fits _
 
-cast-t29 : tie.Need-cast-t29
-cast-t29 c = byte-fits _
+cast-t30 : tie.Need-cast-t30
+cast-t30 c = byte-fits _
 
-cast-t34 : tie.Need-cast-t34
-cast-t34 c = byte-fits _
+cast-t35 : tie.Need-cast-t35
+cast-t35 c = byte-fits _
 
-cast-t36 : tie.Need-cast-t36
-cast-t36 c = byte-fits _
+cast-t37 : tie.Need-cast-t37
+cast-t37 c = byte-fits _
 
-cast-t39 : tie.Need-cast-t39
-cast-t39 c = byte-fits _
+cast-t40 : tie.Need-cast-t40
+cast-t40 c = byte-fits _
 
-cast-t43 : tie.Need-cast-t43
-cast-t43 c = byte-fits _
+cast-t44 : tie.Need-cast-t44
+cast-t44 c = byte-fits _
 
-cast-t48 : tie.Need-cast-t48
-cast-t48 c = byte-fits _
+cast-t49 : tie.Need-cast-t49
+cast-t49 c = byte-fits _
 
-cast-t50 : tie.Need-cast-t50
-cast-t50 c = byte-fits _
+cast-t51 : tie.Need-cast-t51
+cast-t51 c = byte-fits _
 
-cast-t53 : tie.Need-cast-t53
-cast-t53 c = byte-fits _
+cast-t54 : tie.Need-cast-t54
+cast-t54 c = byte-fits _
 
-cast-t55 : tie.Need-cast-t55
-cast-t55 c = byte-fits _
+cast-t56 : tie.Need-cast-t56
+cast-t56 c = byte-fits _
 
-cast-t58 : tie.Need-cast-t58
-cast-t58 c = byte-fits _
+cast-t59 : tie.Need-cast-t59
+cast-t59 c = byte-fits _
 
 returns : tie.Need-returns
 unfolding laid little
@@ -65,20 +65,20 @@ pub open-bytes-spec : {M : Type 1} → statement M
 open-bytes-spec =
     tie.close
     (tie.spec
-    cast-t8
-    cast-t11
-    cast-t15
-    cast-t20
-    cast-t22
-    cast-t25
-    cast-t29
-    cast-t34
-    cast-t36
-    cast-t39
-    cast-t43
-    cast-t48
-    cast-t50
-    cast-t53
-    cast-t55
-    cast-t58
+    cast-t9
+    cast-t12
+    cast-t16
+    cast-t21
+    cast-t23
+    cast-t26
+    cast-t30
+    cast-t35
+    cast-t37
+    cast-t40
+    cast-t44
+    cast-t49
+    cast-t51
+    cast-t54
+    cast-t56
+    cast-t59
     returns)

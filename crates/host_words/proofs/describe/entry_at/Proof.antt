@@ -24,7 +24,7 @@ entry-requires c κs = search needs
 returns : tie.Need-returns
 returns c =
     let w = c .before .before .before .args .words .now in
-    c .entry .ensures ∙ sym (entry-at w (c .before .number-at .result % 32) (omega arith))
+    c .entry .ensures ∙ sym (entry-at w (c .before .number-at .result .0 % 32) (omega arith))
     ∙ ap (λ (n : ℕ). getD (pairOf w .table) (n % 32) free) (c .before .number-at .ensures)
 
 pub entry-at-spec : {M : Type 1} → statement M

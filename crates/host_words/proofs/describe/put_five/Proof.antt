@@ -9,14 +9,17 @@ use Rattle.host_words.proofs.describe.put_five.Tie as tie
 use Rattle.host_words.proofs.describe.put_five.Reads as reads
 use Rattle.host_words.proofs.describe.put_five.Lts as lts
 
+cast-out : tie.Need-cast-out
+cast-out c = search needs
+
 mul-out : tie.Need-mul-out
 mul-out c = search needs
 
 slice-write-out : tie.Need-slice-write-out
 slice-write-out c = search needs
 
-cast-out : tie.Need-cast-out
-cast-out c = search needs
+cast-out-2 : tie.Need-cast-out-2
+cast-out-2 c = search needs
 
 add-out : tie.Need-add-out
 add-out c = search needs
@@ -27,8 +30,8 @@ mul-out-2 c = search needs
 slice-write-out-2 : tie.Need-slice-write-out-2
 slice-write-out-2 c = simp length-set (omega arith)
 
-cast-out-2 : tie.Need-cast-out-2
-cast-out-2 c = search needs
+cast-out-3 : tie.Need-cast-out-3
+cast-out-3 c = search needs
 
 add-out-2 : tie.Need-add-out-2
 add-out-2 c = search needs
@@ -39,8 +42,8 @@ mul-out-3 c = search needs
 slice-write-out-3 : tie.Need-slice-write-out-3
 slice-write-out-3 c = simp length-set (omega arith)
 
-cast-out-3 : tie.Need-cast-out-3
-cast-out-3 c = search needs
+cast-out-4 : tie.Need-cast-out-4
+cast-out-4 c = search needs
 
 add-out-3 : tie.Need-add-out-3
 add-out-3 c = search needs
@@ -51,8 +54,8 @@ mul-out-4 c = search needs
 slice-write-out-4 : tie.Need-slice-write-out-4
 slice-write-out-4 c = simp length-set (omega arith)
 
-cast-out-4 : tie.Need-cast-out-4
-cast-out-4 c = search needs
+cast-out-5 : tie.Need-cast-out-5
+cast-out-5 c = search needs
 
 add-out-4 : tie.Need-add-out-4
 add-out-4 c = search needs
@@ -73,21 +76,22 @@ pub put-five-spec : {M : Type 1} → statement M
 put-five-spec =
     tie.close
     (tie.spec
+    cast-out
     mul-out
     slice-write-out
-    cast-out
+    cast-out-2
     add-out
     mul-out-2
     slice-write-out-2
-    cast-out-2
+    cast-out-3
     add-out-2
     mul-out-3
     slice-write-out-3
-    cast-out-3
+    cast-out-4
     add-out-3
     mul-out-4
     slice-write-out-4
-    cast-out-4
+    cast-out-5
     add-out-4
     mul-out-5
     slice-write-out-5

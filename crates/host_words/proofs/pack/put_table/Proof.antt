@@ -26,8 +26,8 @@ mul-o c = omega arith
 array-copy-out-o : tie.Need-array-copy-out-o Inv-loop μ-loop
 array-copy-out-o c = omega arith
 
-cast-put-entry : tie.Need-cast-put-entry Inv-loop μ-loop
-cast-put-entry c = omega arith
+cast-t14 : tie.Need-cast-t14 Inv-loop μ-loop
+cast-t14 c = omega arith
 
 put-entry-requires : tie.Need-put-entry-requires Inv-loop μ-loop
 put-entry-requires c κs = search needs
@@ -59,7 +59,7 @@ put-table-spec =
     loop-holds
     mul-o
     array-copy-out-o
-    cast-put-entry
+    cast-t14
     put-entry-requires
     add-i
     loop-less

@@ -20,8 +20,8 @@ abbrev μ-loop : tie.MeasureT-loop
 loop-holds : tie.Need-loop-holds Inv-loop μ-loop
 loop-holds c = record { most = omega arith; long = refl; filled = λ k h. absurd (omega (arith, h)) }
 
-cast-entry : tie.Need-cast-entry Inv-loop μ-loop
-cast-entry c = omega arith
+cast-t7 : tie.Need-cast-t7 Inv-loop μ-loop
+cast-t7 c = omega arith
 
 entry-requires : tie.Need-entry-requires Inv-loop μ-loop
 entry-requires c κs = search needs
@@ -51,7 +51,7 @@ table-of-spec =
     Inv-loop
     μ-loop
     loop-holds
-    cast-entry
+    cast-t7
     entry-requires
     mul-table
     array-set-from-table

@@ -50,15 +50,15 @@ returns c =
     let last = c .before .before in
     let first = last .before .before .before .before in
     let made = first .before .before in
-    let start = made .before .before .before in
+    let start = made .before .before .before .before in
     let a = start .args in
     let g = start .good .1 in
-    let e : last .put2 .last .0 ≡ withEntry (a .w .now) (a .number % 32) (a .o) =
+    let e : last .put2 .last .0 ≡ withEntry (a .w .now) (a .number .0 % 32) (a .o) =
     last .put2 .ensures
     ∙ rw (first .put .ensures, made .of-quarters .ensures, made .before .of-halves .ensures) in (
       e,
       λ l. rw e
-          (holds-entry (a .w .now) (a .number % 32) (a .o) (omega arith) (omega (arith, g)) (omega (arith, g)) (omega (arith, g))
+          (holds-entry (a .w .now) (a .number .0 % 32) (a .o) (omega arith) (omega (arith, g)) (omega (arith, g)) (omega (arith, g))
           (omega (arith, g)) l),
     )
 
