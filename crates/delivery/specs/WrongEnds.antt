@@ -17,6 +17,7 @@ use Rattle.host.specs.declared.Pair.{Pair}
 use Rattle.host.specs.declared.Answer.{Answer}
 use Rattle.host.specs.declared.Answer.the-variants.{Accepted, Again, NoMessages, Refused}
 use Rattle.host.specs.declared.Acknowledgement.{Acknowledgement}
+use Rattle.host.specs.declared.Sums.{Sums}
 use Rattle.host.specs.Host.{
   Received,
   unchanged,
@@ -126,18 +127,18 @@ unfoldable pub acknowledgesRest : Receiving
 acknowledgesRest h f m =
     cond (eqb (h .next .0) 0 && eqb (h .marks) 0) (receiveOf h f m) (again h m (number f))
 
--- Reports f of the messages, g of the bytes and k of the completed transactions.
-unfoldable pub reporting : (ℕ → ℕ) → (ℕ → ℕ) → (ℕ → ℕ) → Answer → Answer
-reporting f g k (Accepted n s run) =
-    Accepted n (record { messages = f (s .messages); bytes = g (s .bytes); completed = k (s .completed) }) run
-reporting f g k (Again n run) = Again n run
-reporting f g k NoMessages = NoMessages
-reporting f g k (Refused r) = Refused r
+-- Reports other numbers of messages, bytes and completed transactions than an accepted frame's.
+unfoldable pub reporting : (Sums → Sums) → Answer → Answer
+reporting f (Accepted n s run) = Accepted n (f s) run
+reporting f (Again n run) = Again n run
+reporting f NoMessages = NoMessages
+reporting f (Refused r) = Refused r
 
-unfoldable pub invents : (ℕ → ℕ) → (ℕ → ℕ) → (ℕ → ℕ) → Receiving
-invents f g k h s m =
+-- Takes every frame as the rules say, and makes up the numbers that it reports, from all that it knows.
+unfoldable pub invents : (Pair → List ℕ → List ℕ → Sums → Sums) → Receiving
+invents f h s m =
     let r = receiveOf h s m in
-    record { pair = r .pair; memory = r .memory; answer = reporting f g k (r .answer) }
+    record { pair = r .pair; memory = r .memory; answer = reporting (f h s m) (r .answer) }
 
 -- ---- hosts with one fault
 

@@ -12,6 +12,7 @@ use Rattle.bitmap.specs.Marks.{leading}
 use Rattle.wire.specs.Format.{needed}
 use Rattle.host.specs.declared.Answer.{Answer}
 use Rattle.host.specs.declared.Answer.the-variants.{Accepted}
+use Rattle.host.specs.declared.Sums.{Sums}
 use Rattle.card.specs.Window.{unreleased}
 use Rattle.delivery.specs.Book.{
   frameCopy,
@@ -149,30 +150,21 @@ not-acknowledgesRest d =
     ap (kindAt 1) (applied 36 _ d (replicate 10 0) inOrder (met acknowledgesRest) .answersMatch) in
     omega arith
 
-messagesOf : Expected → ℕ
-messagesOf (expectAccepted c s run) = s .messages
-messagesOf (expectAgain c run) = 0
-messagesOf expectNoEffect = 0
+sumsIn : Expected → Sums
+sumsIn (expectAccepted c s run) = s
+sumsIn (expectAgain c run) = record { messages = 0; bytes = 0; completed = 0 }
+sumsIn expectNoEffect = record { messages = 0; bytes = 0; completed = 0 }
 
-bytesIn : Expected → ℕ
-bytesIn (expectAccepted c s run) = s .bytes
-bytesIn (expectAgain c run) = 0
-bytesIn expectNoEffect = 0
+-- What each frame of the list brings: one message of one byte, which completes its transaction.
+abbrev one : Sums
+one = record { messages = 1; bytes = 1; completed = 1 }
 
-completedIn : Expected → ℕ
-completedIn (expectAccepted c s run) = s .completed
-completedIn (expectAgain c run) = 0
-completedIn expectNoEffect = 0
-
--- It reports right numbers.
-not-invents : (f g k : ℕ → ℕ) → Demand3For (withHost (invents f g k)) → (f 1 ≡ 1) × (g 1 ≡ 1) × (k 1 ≡ 1)
-unfolding computing inOrder invents reporting messagesOf bytesIn completedIn
-not-invents f g k d =
-    let e = applied 36 _ d (replicate 10 0) inOrder (met (invents f g k)) .answersMatch in (
-      ap (λ xs. messagesOf (getD xs 0 expectNoEffect)) e,
-      ap (λ xs. bytesIn (getD xs 0 expectNoEffect)) e,
-      ap (λ xs. completedIn (getD xs 0 expectNoEffect)) e,
-    )
+-- It reports one of each for such a frame, whatever else it may report. Invented.antt has any other numbers.
+not-invents : (f : Sums → Sums) → Demand3For (withHost (invents (λ h s m. f))) → f one ≡ one
+unfolding computing inOrder invents reporting sumsIn
+not-invents f d =
+    ap (λ xs. sumsIn (getD xs 0 expectNoEffect))
+    (applied 36 _ d (replicate 10 0) inOrder (met (invents (λ h s m. f))) .answersMatch)
 
 -- The sums alone tell it too, and they do so again once all is finished.
 inOrderRead : List Event
@@ -222,16 +214,21 @@ applied-read r d q =
     (applied 36 (withHost r) d (replicate 10 0) inOrderRead
     (judged-passed 36 (withHost r) (replicate 10 0) inOrderRead readBook q))
 
-module _ (f g k : ℕ → ℕ) (d : Demand3For (withHost (invents f g k))) where
-  abbrev inventing : System
-  inventing = runs 36 (withHost (invents f g k)) (replicate 10 0) inOrderRead .system
+-- Both frames told so: the sums are 2.
+abbrev Told : Sums → Type 0
+Told s =
+    (s .messages + (s .messages + 0) ≡ 2) × (s .bytes + (s .bytes + 0) ≡ 2) × (s .completed + (s .completed + 0) ≡ 2)
 
-  judged : T (judgedAs (judge 36 (withHost (invents f g k)) (replicate 10 0) inOrderRead) readBook)
+module _ (f : Sums → Sums) (d : Demand3For (withHost (invents (λ h s m. f)))) where
+  abbrev inventing : System
+  inventing = runs 36 (withHost (invents (λ h s m. f))) (replicate 10 0) inOrderRead .system
+
+  judged : T (judgedAs (judge 36 (withHost (invents (λ h s m. f))) (replicate 10 0) inOrderRead) readBook)
   unfolding computing inOrderRead invents reporting readBook
   judged = tt
 
   abbrev reported : ℕ → Answer
-  reported n = Accepted (record { 0 = n }) (record { messages = f 1; bytes = g 1; completed = k 1 }) 1
+  reported n = Accepted (record { 0 = n }) (f one) 1
 
   answers-are : inventing .answers ≡ reported 0 ∷ reported 1 ∷ []
   unfolding computing inOrderRead invents reporting
@@ -247,13 +244,13 @@ module _ (f g k : ℕ → ℕ) (d : Demand3For (withHost (invents f g k))) where
   held : Guarantees (answering (reported 0 ∷ reported 1 ∷ [])) readBook
   held =
       subst (λ (answers : List Answer). Guarantees (answering answers) readBook) answers-are
-      (applied-read (invents f g k) d judged)
+      (applied-read (invents (λ h s m. f)) d judged)
 
-  sums-told : (f 1 + (f 1 + 0) ≡ 2) × (g 1 + (g 1 + 0) ≡ 2) × (k 1 + (k 1 + 0) ≡ 2)
+  sums-told : Told (f one)
   unfolding readBook messagesIn ofTransaction allMessagesIn needed dataBytes completeCount sumOver
   sums-told = (held .messagesAgree, held .bytesAgree, held .completeAgree)
 
-  whole-sums-told : (f 1 + (f 1 + 0) ≡ 2) × (g 1 + (g 1 + 0) ≡ 2) × (k 1 + (k 1 + 0) ≡ 2)
+  whole-sums-told : Told (f one)
   unfolding readBook messagesIn ofTransaction needed dataBytes neededBy bytesBy sumOver
   whole-sums-told =
       let w = held .whenAllFinished read-finished in
