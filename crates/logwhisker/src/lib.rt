@@ -75,6 +75,9 @@ ghost use Rattle.logwhisker.specs.Face.{
 
 // ---- the host, in 67 words
 
+// The promises say which pair the words hold (pairOf). Where a call takes effect, bits of the words that mean nothing
+// are left open; opening and restoring always take effect. Receiving leaves every word as it was unless it accepts.
+
 // Opens a host; 13 where an ID is 0, and then the host is a fresh one with both IDs 0.
 pub fn open_host(words: &mut [u64; 67], own: u16, peer: u16) -> u8
     ensures { λ r. ⌜ r ≡ hostOpened own peer .refusal .number ⌝ }
@@ -166,6 +169,9 @@ pub fn acknowledge_by_value(pair: Pair, answer: Answer, number: FrameNo) -> Ackn
 }
 
 // ---- the card, in 85 words
+
+// The promises say which card the words hold (cardOf). Where a call takes effect, bits of the words that mean nothing
+// are left open; opening the card always takes effect. A refused step leaves every word as it was.
 
 // Opens a card with a frame limit; 13 where an ID is 0, then 26 where the limit or the slot buffer is not as it must
 // be. Where it is refused, the card is a fresh one with both IDs and the limit 0.
