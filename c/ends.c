@@ -792,7 +792,7 @@ static void check_reading(void)
     check_refused_read(&sender, frame, 10, LW_REFUSED_WRONG_ID);
     check("still held", 0, show(&sender, 0, &part), 0);
 
-    /* A range that comes round: 65,535 and 0. */
+    /* A range that wraps: 65,535 and 0. */
     memcpy(frame, whole_acknowledgement, sizeof whole_acknowledgement);
     put16(frame + 6, 65535);
     frame[8] = 2;
@@ -812,7 +812,7 @@ static uint64_t next_random(uint64_t *seed)
     return mixed ^ mixed >> 31;
 }
 
-/* What a card sends arrives, while all frame numbers come round. */
+/* What a card sends arrives, while all frame numbers wrap. */
 static void check_coming_round(void)
 {
     enum { FRAMES = 66000 };
@@ -845,7 +845,7 @@ static void check_coming_round(void)
         check("due", i, lw_host_acknowledge(&receiver.host, &answer, 0, acknowledgement), 1);
         check("read", i, lw_card_read(&sender.card, acknowledgement, sizeof acknowledgement), 0);
     }
-    end_group("frame numbers that come round");
+    end_group("frame numbers that wrap");
 }
 
 /* Transactions of a card, each of one message of four bytes, and a completion of four. */

@@ -1,4 +1,4 @@
--- A window over numbers that come round: mark i of a word stands for the number i past the window's first one. The same
+-- A window over numbers that wrap: mark i of a word stands for the number i past the window's first one. The same
 -- step moves every window, of frames as of transactions: a mark is set, and the window moves past the set marks that it
 -- begins with then.
 use Prim.Native.Nat.{ℕ, _/_, _^_}

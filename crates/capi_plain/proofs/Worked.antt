@@ -13,7 +13,7 @@ use lib.ListN.{getD, replicate}
 use Rattle.seq.specs.Ring.{distance, advance}
 use Rattle.bitmap.specs.Marks.{mark, withMark, leading, trailingOnes}
 use Rattle.octets.specs.Octets.{Bytes, little, value, field, inside, written}
-use Rattle.wire.specs.Format.{headOf, needed}
+use Rattle.wire.specs.Format.{messageHeader, needed}
 use Rattle.wire.specs.Reading.{addressed, follows, messageAt, messagesFrom, headingOf, readFrame}
 use Rattle.wire.specs.Writing.{frameHead, ackFrame}
 use Rattle.host.specs.Terms.{agrees, termsRefusal, addressRefusal}
@@ -114,7 +114,7 @@ pub host-sequence : Sequence HostDoes (replicate 67 0) before calls atHost
 unfolding Sequence hostShows hostLeaves pairOf entriesFrom first.openedOf first.fresh first.receiveOf
     first.byNumber first.settled first.runFrom first.takeAll first.takeIn first.effect first.accepting
     first.afterFrame first.acknowledgementFrom transactions.verdict transactions.verdictOf transactions.after
-    transactions.fills transactions.closing agrees termsRefusal addressRefusal needed headOf addressed
+    transactions.fills transactions.closedVerdict agrees termsRefusal addressRefusal needed messageHeader addressed
     follows messageAt messagesFrom headingOf readFrame frameHead ackFrame distance advance mark withMark leading
     trailingOnes little value field inside written
 host-sequence = ((refl, refl), ((refl, refl), ((refl, refl), ((refl, refl), tt))))
@@ -122,8 +122,8 @@ host-sequence = ((refl, refl), ((refl, refl), ((refl, refl), ((refl, refl), tt))
 pub plain-sequence : Sequence PlainDoes (replicate 228 0) before calls atPlain
 unfolding Sequence plainShows plainLeaves plainOf marksFrom entryAt tableOf headWord entryWord wordAt wordsOf listOf
     plain.openedOf plain.fresh plain.receiveOf plain.byNumber plain.isSettled plain.runFrom plain.takeAll plain.takeIn
-    plain.effect plain.counted plain.accepting plain.after plain.completes plain.closing plain.differs
-    plain.messageRefusal plain.firstSet plain.movedBy headOf addressed follows messageAt messagesFrom headingOf
+    plain.effect plain.counted plain.accepting plain.after plain.completes plain.closedBy plain.differs
+    plain.messageRefusal plain.leadingSet plain.movedBy messageHeader addressed follows messageAt messagesFrom headingOf
     readFrame frameHead ackFrame distance advance little value field inside written
 plain-sequence = ((refl, refl), ((refl, refl), ((refl, refl), ((refl, refl), tt))))
 
@@ -197,8 +197,8 @@ forgotten =
 forgets : Sequence Forgets (replicate 228 0) before calls forgotten
 unfolding Sequence plainShows plainLeaves plainOf marksFrom entryAt tableOf headWord entryWord wordAt wordsOf
     listOf plain.openedOf plain.fresh plain.receiveOf plain.byNumber plain.isSettled plain.runFrom plain.takeAll
-    plain.takeIn plain.effect plain.counted plain.accepting plain.after plain.completes plain.closing plain.differs
-    plain.messageRefusal plain.firstSet plain.movedBy headOf addressed follows messageAt messagesFrom headingOf
+    plain.takeIn plain.effect plain.counted plain.accepting plain.after plain.completes plain.closedBy plain.differs
+    plain.messageRefusal plain.leadingSet plain.movedBy messageHeader addressed follows messageAt messagesFrom headingOf
     readFrame frameHead ackFrame distance advance little value field inside written
 forgets = ((refl, refl), ((refl, refl), ((refl, refl), ((refl, refl), tt))))
 

@@ -29,7 +29,7 @@ use Rattle.card.specs.Sendings.{
   openingRefusal,
   opening,
   takes,
-  oneMore,
+  oneAdded,
   adding,
   allReleased,
   passing,
@@ -325,9 +325,9 @@ module _ (c : Card) (h : History) (r : Agrees c h) (slots : List ℕ) (t at : �
           omega (arith, takes-lacks (c .sendings) t takes-one, kept-its .added-is, ap needed (kept-its .count-is))
 
   abbrev table-more : List Sending
-  table-more = set (c .sendings .table) (t % 32) (oneMore (sendingAt (c .sendings) t) (c .window .next .0))
+  table-more = set (c .sendings .table) (t % 32) (oneAdded (sendingAt (c .sendings) t) (c .window .next .0))
 
-  one-kept : Kept (oneMore (sendingAt (c .sendings) t) (c .window .next .0)) (withFrame h its) (h .sealed)
+  one-kept : Kept (oneAdded (sendingAt (c .sendings) t) (c .window .next .0)) (withFrame h its) (h .sealed)
   one-kept =
       record {
         count-is = kept-its .count-is;

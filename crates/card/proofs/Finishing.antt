@@ -1,4 +1,4 @@
--- The card's transactions against counts that never come round: the lowest unfinished one, how many are opened, and
+-- The card's transactions against counts that never wrap: the lowest unfinished one, how many are opened, and
 -- tests that say of each count whether that transaction is finished.
 -- Assumes nothing.
 use Prim.Native.Nat.{ℕ, _+_, _-_, _%_, _≤_, _<_}
@@ -91,7 +91,7 @@ module _ (s : Sendings) (low total : ℕ) (within : low ≤ total) (few : total 
       (below : (i : ℕ) → i < low → q i ≡ true) (stays : (i : ℕ) → p i ≡ true → q i ≡ true)
       (now : (i : ℕ) → low ≤ i → i < total → p i ≡ false → allReleased (sendingAt s i) from base ≡ q i)
       (unopened : (i : ℕ) → total ≤ i → q i ≡ false) where
-    -- entries go on with the numbers where those come round
+    -- entries go on with the numbers where those wrap
     entry-is : (i : ℕ) → sendingAt s (s .lowest .0 + i) ≡ sendingAt s (low + i)
     entry-is i =
         let e : (low % transSpace + i) % 32 ≡ (low + i) % 32 = omega arith in

@@ -38,7 +38,7 @@ use Rattle.card.specs.Sendings.{
   sendingAt,
   opening,
   takes,
-  oneMore,
+  oneAdded,
   adding,
   allAdded,
   allReleased,
@@ -181,7 +181,7 @@ module _ (w : SendWindow) (limit start count : ℕ) (k : InOrder w limit) where
         sizes-most = k .sizes-most;
       }
     where
-      -- slots go on with the numbers where those come round
+      -- slots go on with the numbers where those wrap
       slot : (i : ℕ) → ((w .base .0 + released) % frameSpace + i) % 64 ≡ (w .base .0 + (released + i)) % 64
       slot i = omega arith
 
@@ -256,7 +256,7 @@ adding-keeps s t frame o f = go (takes s t) refl
     e : Sending
     e = sendingAt s t
 
-    more : takes s t ≡ true → Counted (oneMore e frame)
+    more : takes s t ≡ true → Counted (oneAdded e frame)
     more z =
         let l : e .added < needed (e .count) = takes-lacks s t z in
         let k : Counted e = o .each (t % 32) in
@@ -275,8 +275,8 @@ adding-keeps s t frame o f = go (takes s t) refl
           next-fits = o .next-fits;
           lowest-fits = o .lowest-fits;
           finished-fits = o .finished-fits;
-          entries = length-set (s .table) (t % 32) (oneMore e frame) ∙ o .entries;
-          each = each-set (s .table) (t % 32) (oneMore e frame) (omega (arith, o .entries)) (more z) (o .each);
+          entries = length-set (s .table) (t % 32) (oneAdded e frame) ∙ o .entries;
+          each = each-set (s .table) (t % 32) (oneAdded e frame) (omega (arith, o .entries)) (more z) (o .each);
           few = o .few;
           unopened-clear = o .unopened-clear;
           lowest-clear = o .lowest-clear;
@@ -420,7 +420,7 @@ module _ (s : Sendings) (count address value : ℕ) (w : SendWindow) (o : Orderl
 -- a message more is added, to the frame being built
 module _ (s : Sendings) (t : ℕ) (w : SendWindow) (o : Orderly s) (k : Settled s w) where
   abbrev added : Sending
-  added = oneMore (sendingAt s t) (w .next .0)
+  added = oneAdded (sendingAt s t) (w .next .0)
 
   abbrev with-added : Sendings
   with-added =

@@ -1,4 +1,4 @@
--- The window of sealed frames against counts that never come round: so many frames are released, so many are sealed,
+-- The window of sealed frames against counts that never wrap: so many frames are released, so many are sealed,
 -- and a test says of each count whether that frame is acknowledged.
 -- Assumes nothing.
 use Prim.Native.Nat.{ℕ, _+_, _-_, _%_, _≤_, _<_}

@@ -53,8 +53,8 @@ takes s t =
     && ltb (sendingAt s t .added) (needed (sendingAt s t .count))
 
 -- One message of transaction t more, in the frame of this number; nothing where t takes none.
-abbrev pub oneMore : Sending → ℕ → Sending
-oneMore e frame = record {
+abbrev pub oneAdded : Sending → ℕ → Sending
+oneAdded e frame = record {
   address = e .address;
   value = e .value;
   count = e .count;
@@ -69,7 +69,7 @@ adding s t frame =
       next = s .next;
       lowest = s .lowest;
       finished = s .finished;
-      table = set (s .table) (t % 32) (oneMore (sendingAt s t) frame);
+      table = set (s .table) (t % 32) (oneAdded (sendingAt s t) frame);
     })
     s
 

@@ -6,7 +6,6 @@ use seq::TransNo;
 ghost use mathlib.Core.Path.{_≡_};
 ghost use mathlib.Core.Bool.{Bool, true, false};
 ghost use Prim.Native.Nat.{_*_, _%_, _<_};
-ghost use Rattle.wire.specs.Format.{needed};
 ghost use Rattle.card.specs.Card.{fits};
 
 // The sealed frames. Bit i of acked stands for the frame base + i and is set where that is acknowledged. The frame n is
@@ -84,14 +83,4 @@ pub fn slot_start(limit: u16, n: FrameNo) -> usize
     ensures { λ r. ⌜ (r ≡ n .0 % 64 * limit) × (r < 4194304) ⌝ }
 {
     (n.0 % 64) as usize * limit as usize
-}
-
-// The messages that a transaction takes: one bare one for count 0.
-pub fn messages_of(count: u16) -> u16
-    ensures { λ r. ⌜ r ≡ needed count ⌝ }
-{
-    if count == 0 {
-        return 1;
-    }
-    count
 }

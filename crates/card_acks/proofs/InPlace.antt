@@ -17,9 +17,9 @@ use Rattle.card.specs.Window.{acknowledgedBy, releasing, acknowledging}
 use Rattle.card.specs.Sendings.{finishedBy, passing, finishing}
 use Rattle.card.specs.Card.{acknowledged, readAcks}
 use Rattle.card_words.specs.declared.Head.{Head}
-use Rattle.card_words.specs.Words.{cardOf, headOf, withHead}
+use Rattle.card_words.specs.Words.{cardOf, headPart, withHead}
 
-module _ (w : List ℕ) (h : Head) (head-is : h ≡ headOf (cardOf w)) where
+module _ (w : List ℕ) (h : Head) (head-is : h ≡ headPart (cardOf w)) where
   pub released-now : (start count acked run moved finished gone past : ℕ) (base : FrameNo) (lowest : TransNo)
       (left : List ℕ)
       → acked ≡ marksOf 64 (acknowledgedBy (cardOf w .window) start count) → run ≡ trailingOnes 64 acked

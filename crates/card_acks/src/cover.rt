@@ -10,7 +10,7 @@ ghost use Rattle.card_words.specs.Words.{cardOf};
 ghost use Rattle.card_acks.specs.Covering.{coveredBy};
 
 // Marks of the frames from base on that are among the count numbers from start on: a run of them, from the distance of
-// start on, and where that run comes round to base, one from base on too.
+// start on, and where that run wraps to base, one from base on too.
 fn covered(base: FrameNo, start: FrameNo, count: u8) -> u64
     ensures { λ r. ⌜ r ≡ marksOf 64 (coveredBy (base .0) (start .0) count) ⌝ }
 {

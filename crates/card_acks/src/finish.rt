@@ -17,7 +17,7 @@ ghost use Rattle.card_acks.specs.Finishing.{finishedNow, finishedBefore}
 fn is_all_released(e: Sending, from: FrameNo, base: FrameNo) -> bool
     ensures { λ r. ⌜ r ≡ allReleased e (from .0) (base .0) ⌝ }
 {
-    if e.added != card::messages_of(e.count) {
+    if e.added != wire::messages_needed(e.count) {
         return false;
     }
     let latest = e.frame;

@@ -6,12 +6,12 @@ pub mod finish;
 
 use bitmap::word32;
 use bitmap::word64;
-use card_words::store;
+use card_words::update;
 use seq::FrameNo;
 use wire_read::layout;
 ghost use mathlib.Core.Path.{_≡_};
 ghost use Rattle.card.specs.Card.{acknowledged, readAcks};
-ghost use Rattle.card_words.specs.Words.{cardOf, Becomes, Steps, orNotCard};
+ghost use Rattle.card_words.specs.Words.{cardOf, Becomes, Steps, orOtherLength};
 
 // Acknowledges the count numbers from start on: frames are released, and with them transactions finish.
 fn acknowledge(words: &mut [u64], start: FrameNo, count: u8)
@@ -31,18 +31,18 @@ fn acknowledge(words: &mut [u64], start: FrameNo, count: u8)
     next.base = base;
     next.lowest = lowest.advance(gone);
     next.finished = word32::shifted(finished, gone);
-    store::put_head(words, next);
+    update::put_head(words, next);
 }
 
 // Reads the acknowledgements of an arriving frame, and answers the refusal, 0 for none.
 pub fn read_acknowledgements(words: &mut [u64], f: &[u8]) -> u8
     ensures { λ r.
-        ⌜ r ≡ orNotCard (now (words .entry)) (readAcks (cardOf (now (words .entry))) (now (f .entry)) .refusal) ⌝ }
+        ⌜ r ≡ orOtherLength (now (words .entry)) (readAcks (cardOf (now (words .entry))) (now (f .entry)) .refusal) ⌝ }
     ensures { λ r. ⌜ Steps (now (words .entry)) (now (words .exit)) r
         (readAcks (cardOf (now (words .entry))) (now (f .entry)) .card) ⌝ }
 {
     if words.len() != card_words::CARD_WORDS {
-        return card_words::NOT_CARD;
+        return card_words::OTHER_LENGTH;
     }
     let h = card_words::head_of(words);
     let refusal = layout::refusal_of(f, h.own, h.peer);

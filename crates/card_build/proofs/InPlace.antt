@@ -16,7 +16,7 @@ use Rattle.card.specs.Sendings.{sendingAt, takes, adding}
 use Rattle.card.specs.Card.{headerOffset, addRefusal, messageOf, builtSlots, withMessage, addMessage}
 use Rattle.card.proofs.Adding.{takes-room}
 use Rattle.card_words.specs.declared.Head.{Head}
-use Rattle.card_words.specs.Words.{cardOf, headOf, withHead, withSending}
+use Rattle.card_words.specs.Words.{cardOf, headPart, withHead, withSending}
 
 -- ---- what the answers of a refused and an accepted adding are
 
@@ -35,7 +35,7 @@ module _ (c : Card) (slots : List ℕ) (t at : ℕ) (bytes : List ℕ) (r : ℕ)
 
 -- ---- what is counted
 
-module _ (w : List ℕ) (h : Head) (head-is : h ≡ headOf (cardOf w)) where
+module _ (w : List ℕ) (h : Head) (head-is : h ≡ headPart (cardOf w)) where
   pub room-for-one : (t : ℕ) (e : Sending) → takes (cardOf w .sendings) t ≡ true → e ≡ sendingAt (cardOf w .sendings) t
       → e .count < 65536 → e .added + 1 < 65536
   room-for-one t e ok is f = rw is (takes-room (cardOf w .sendings) t ok (rw is at f))

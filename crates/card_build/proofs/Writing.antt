@@ -10,24 +10,24 @@ use lib.Dec.{eqb}
 use lib.ListN.{length, take, drop}
 use Rattle.octets.proofs.Octets.{part-written, written-inside}
 use Rattle.wire.specs.declared.MessageHeader.{MessageHeader}
-use Rattle.wire.specs.Format.{Message, carrying, headOf}
+use Rattle.wire.specs.Format.{Message, carrying, messageHeader}
 use Rattle.wire.specs.Writing.{firstMessage, nextMessage}
 use Rattle.card.specs.declared.Card.{Card}
 use Rattle.card.specs.Card.{fits, slotStart, slotOf, messageOf, builtSlot, builtSlots}
 use Rattle.card_words.specs.declared.Head.{Head}
-use Rattle.card_words.specs.Words.{headOf as headIs}
+use Rattle.card_words.specs.Words.{messageHeader as headIs}
 use Rattle.card.proofs.Slots.{buffer-long, length-slot, slot-inside, slot-long}
 
 -- the header is that of the message, whatever its data
-message-carried : (c : Card) (t at : ℕ) (bytes : List ℕ) (h : MessageHeader) → h ≡ headOf (messageOf c t at [])
+message-carried : (c : Card) (t at : ℕ) (bytes : List ℕ) (h : MessageHeader) → h ≡ messageHeader (messageOf c t at [])
     → carrying h bytes ≡ messageOf c t at bytes
-unfolding carrying headOf messageOf
+unfolding carrying messageHeader messageOf
 message-carried c t at bytes h e = rw e
 
 -- k bytes of the buffer from `start` on, those of the slot, are lent and come back as l
 module _ (c : Card) (slots : List ℕ) (t at : ℕ) (bytes : List ℕ) (h : MessageHeader) (start k : ℕ) (l : List ℕ)
     (ok : fits (c .limit) slots ≡ true) (start-is : start ≡ slotStart c (c .window .next .0)) (k-is : k ≡ c .limit)
-    (header : h ≡ headOf (messageOf c t at [])) where
+    (header : h ≡ messageHeader (messageOf c t at [])) where
   abbrev num : ℕ
   num = c .window .next .0
 

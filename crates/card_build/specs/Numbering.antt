@@ -6,7 +6,7 @@ use mathlib.Core.List.{List}
 use lib.Dec.{eqb}
 use lib.ListN.{length}
 use Rattle.card.specs.Card.{openTransaction, sealFrame}
-use Rattle.card_words.specs.Words.{cardWords, cardOf, notCard}
+use Rattle.card_words.specs.Words.{cardWords, cardOf, otherLength}
 use Rattle.card_build.specs.declared.number.OpenedTransaction.{OpenedTransaction}
 use Rattle.card_build.specs.declared.number.SealedFrame.{SealedFrame}
 
@@ -15,11 +15,11 @@ openedIn w count address value =
     let o = openTransaction (cardOf w) count address value in
     cond (eqb (length w) cardWords)
     (record { refusal = o .refusal; trans = o .trans })
-    (record { refusal = notCard; trans = record { 0 = 0 } })
+    (record { refusal = otherLength; trans = record { 0 = 0 } })
 
 unfoldable pub sealedIn : List ℕ → List ℕ → SealedFrame
 sealedIn w slots =
     let s = sealFrame (cardOf w) slots in
     cond (eqb (length w) cardWords)
     (record { refusal = s .refusal; number = s .number })
-    (record { refusal = notCard; number = record { 0 = 0 } })
+    (record { refusal = otherLength; number = record { 0 = 0 } })

@@ -23,7 +23,7 @@ fn is_taking(words: &[u64], t: TransNo) -> bool
         return false;
     }
     let e = card_words::sending_at(words, t);
-    e.added < card::messages_of(e.count)
+    e.added < wire::messages_needed(e.count)
 }
 
 // Whether there is data for the one message of a transaction of count 0.

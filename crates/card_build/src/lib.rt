@@ -7,7 +7,7 @@ pub mod number;
 pub mod opening;
 
 use card::Sending;
-use card_words::store;
+use card_words::update;
 use seq::FrameNo;
 use seq::TransNo;
 use wire::MessageHeader;
@@ -17,18 +17,18 @@ ghost use mathlib.Core.List.{[]};
 ghost use Prim.Native.Nat.{_+_, _≤_};
 ghost use lib.Dec.{eqb};
 ghost use lib.ListN.{length};
-ghost use Rattle.wire.specs.Format.{carrying, headOf};
+ghost use Rattle.wire.specs.Format.{carrying, messageHeader};
 ghost use Rattle.wire.specs.Writing.{firstMessage, nextMessage};
 ghost use Rattle.card.specs.Sendings.{takes};
 ghost use Rattle.card.specs.Card.{fits, headerOffset, messageOf, builtSlots, withMessage, addMessage};
-ghost use Rattle.card_words.specs.Words.{cardOf, Becomes, Steps, orNotCard};
+ghost use Rattle.card_words.specs.Words.{cardOf, Becomes, Steps, orOtherLength};
 ghost use Rattle.card_build.specs.Building.{addedIn};
 
 // ---- writing a message, and counting it
 
 // The header of a message of transaction t with data for an address.
 fn header_of(words: &[u64], t: TransNo, at: u32) -> MessageHeader
-    ensures { λ r. ⌜ r ≡ headOf (messageOf (cardOf (now (words .entry))) (t .0) at []) ⌝ }
+    ensures { λ r. ⌜ r ≡ messageHeader (messageOf (cardOf (now (words .entry))) (t .0) at []) ⌝ }
 {
     let e = card_words::sending_at(words, t);
     MessageHeader {
@@ -95,7 +95,7 @@ fn count_message(words: &mut [u64], t: TransNo, payload: &[u8])
     let h = card_words::head_of(words);
     let frame = h.next;
     let e = card_words::sending_at(words, t);
-    store::put_sending(
+    update::put_sending(
         words,
         t,
         Sending {
@@ -110,7 +110,7 @@ fn count_message(words: &mut [u64], t: TransNo, payload: &[u8])
     let mut next = h;
     next.used = (start + wire::MESSAGE_HEADER + payload.len()) as u16;
     next.last = start as u16;
-    store::put_head(words, next);
+    update::put_head(words, next);
 }
 
 // ---- adding it
@@ -118,7 +118,7 @@ fn count_message(words: &mut [u64], t: TransNo, payload: &[u8])
 // Adds one message of transaction t, with data for an address, to the frame being built, and answers the refusal, 0 for
 // none.
 pub fn add_message(words: &mut [u64], slots: &mut [u8], t: TransNo, at: u32, payload: &[u8]) -> u8
-    ensures { λ r. ⌜ r ≡ orNotCard (now (words .entry)) (addMessage
+    ensures { λ r. ⌜ r ≡ orOtherLength (now (words .entry)) (addMessage
         (cardOf (now (words .entry))) (now (slots .entry)) (t .0) at (now (payload .entry)) .step .refusal) ⌝ }
     ensures { λ r. ⌜ Steps (now (words .entry)) (now (words .exit)) r
         (addMessage (cardOf (now (words .entry))) (now (slots .entry)) (t .0) at (now (payload .entry)) .step .card) ⌝ }
@@ -126,7 +126,7 @@ pub fn add_message(words: &mut [u64], slots: &mut [u8], t: TransNo, at: u32, pay
         ⌜ now (slots .exit) ≡ addedIn (now (words .entry)) (now (slots .entry)) (t .0) at (now (payload .entry)) ⌝ }
 {
     if words.len() != card_words::CARD_WORDS {
-        return card_words::NOT_CARD;
+        return card_words::OTHER_LENGTH;
     }
     let refusal = admit::add_refusal(words, slots, t, payload);
     if refusal != 0 {

@@ -2,7 +2,7 @@
 // are lent and changed in place; no slot is written. Assumes nothing of words and slots. It promises what
 // card/specs/Card.antt says of the card that the words hold, and that a refused step changes no word.
 use card::Sending;
-use card_words::store;
+use card_words::update;
 use seq::FrameNo;
 use seq::TransNo;
 ghost use mathlib.Core.Path.{_≡_};
@@ -37,7 +37,7 @@ pub fn open_transaction(
 {
     if words.len() != card_words::CARD_WORDS {
         return OpenedTransaction {
-            refusal: card_words::NOT_CARD,
+            refusal: card_words::OTHER_LENGTH,
             trans: TransNo(0),
         };
     }
@@ -50,7 +50,7 @@ pub fn open_transaction(
             trans: TransNo(0),
         };
     }
-    store::put_sending(
+    update::put_sending(
         words,
         trans,
         Sending {
@@ -63,7 +63,7 @@ pub fn open_transaction(
     );
     let mut next = h;
     next.upcoming = trans.advance(1);
-    store::put_head(words, next);
+    update::put_head(words, next);
     OpenedTransaction { refusal: 0, trans }
 }
 
@@ -91,7 +91,7 @@ pub fn seal_frame(words: &mut [u64], slots: &[u8]) -> SealedFrame
 {
     if words.len() != card_words::CARD_WORDS {
         return SealedFrame {
-            refusal: card_words::NOT_CARD,
+            refusal: card_words::OTHER_LENGTH,
             number: FrameNo(0),
         };
     }
@@ -104,11 +104,11 @@ pub fn seal_frame(words: &mut [u64], slots: &[u8]) -> SealedFrame
         };
     }
     let number = h.next;
-    store::put_size(words, number, h.used);
+    update::put_size(words, number, h.used);
     let mut next = h;
     next.used = 0;
     next.last = 0;
     next.next = number.advance(1);
-    store::put_head(words, next);
+    update::put_head(words, next);
     SealedFrame { refusal: 0, number }
 }

@@ -3,13 +3,13 @@
 // then, and that a buffer of another length is left as it was.
 use card_words::CARD_WORDS;
 use card_words::Head;
-use card_words::NOT_CARD;
-use card_words::store;
+use card_words::OTHER_LENGTH;
+use card_words::update;
 use seq::FrameNo;
 use seq::TransNo;
 ghost use mathlib.Core.Path.{_≡_};
 ghost use Rattle.card.specs.Card.{cardRefusal, openCard};
-ghost use Rattle.card_words.specs.Words.{Leaves, orNotCard};
+ghost use Rattle.card_words.specs.Words.{Leaves, orOtherLength};
 ghost use Rattle.card_build.specs.Clearing.{Zeros};
 
 // Makes every word 0.
@@ -42,18 +42,18 @@ fn card_refusal(own: u16, peer: u16, limit: usize, slots: &[u8]) -> u8
 // Opens a card with a frame limit in these words, and answers the refusal, 0 for none. A refused opening leaves a card
 // with both IDs and the limit 0.
 pub fn open_card(w: &mut [u64], own: u16, peer: u16, limit: usize, slots: &[u8]) -> u8
-    ensures { λ r. ⌜ r ≡ orNotCard (now (w .entry)) (openCard own peer limit (now (slots .entry)) .refusal) ⌝ }
+    ensures { λ r. ⌜ r ≡ orOtherLength (now (w .entry)) (openCard own peer limit (now (slots .entry)) .refusal) ⌝ }
     ensures { λ _. ⌜ Leaves (now (w .entry)) (now (w .exit)) (openCard own peer limit (now (slots .entry)) .card) ⌝ }
 {
     if w.len() != CARD_WORDS {
-        return NOT_CARD;
+        return OTHER_LENGTH;
     }
     let refusal = card_refusal(own, peer, limit, slots);
     clear(w);
     if refusal != 0 {
         return refusal;
     }
-    store::put_head(
+    update::put_head(
         w,
         Head {
             own,

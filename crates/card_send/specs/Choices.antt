@@ -7,14 +7,14 @@ use lib.Dec.{eqb}
 use lib.ListN.{length}
 use Rattle.card.specs.Window.{oldestHeld}
 use Rattle.card.specs.Card.{isAck, chooseRefusal, chooseNext}
-use Rattle.card_words.specs.Words.{cardWords, cardOf, orNotCard}
+use Rattle.card_words.specs.Words.{cardWords, cardOf, orOtherLength}
 use Rattle.card_send.specs.Parts.{noPart, framePart}
 use Rattle.card_send.specs.declared.choose.Choice.{Choice}
 
 -- The lent acknowledgement whole, or a part of the slots.
 unfoldable pub chosenPart : List ℕ → List ℕ → List ℕ → Choice
 chosenPart w slots ack =
-    let r = orNotCard w (chooseRefusal (cardOf w) slots ack) in
+    let r = orOtherLength w (chooseRefusal (cardOf w) slots ack) in
     cond (eqb r 0)
     (cond (isAck ack)
     (record { refusal = 0; lent = true; part = record { offset = 0; len = 10 } })

@@ -8,7 +8,7 @@ use lib.ListN.{length, take, drop}
 use Rattle.card.specs.declared.Card.{Card}
 use Rattle.card.specs.Window.{sizeOf}
 use Rattle.card.specs.Card.{slotStart, showRefusal, showFrame}
-use Rattle.card_words.specs.Words.{cardWords, cardOf, orNotCard}
+use Rattle.card_words.specs.Words.{cardWords, cardOf, orOtherLength}
 use Rattle.card_send.specs.declared.show.Part.{Part}
 use Rattle.card_send.specs.declared.show.Showing.{Showing}
 
@@ -26,7 +26,7 @@ framePart c slots n =
 
 unfoldable pub shownPart : List ℕ → List ℕ → ℕ → Showing
 shownPart w slots n =
-    let r = orNotCard w (showRefusal (cardOf w) slots n) in
+    let r = orOtherLength w (showRefusal (cardOf w) slots n) in
     cond (eqb r 0) (record { refusal = 0; part = framePart (cardOf w) slots n }) (record { refusal = r; part = noPart })
 
 -- The part itself.

@@ -10,7 +10,7 @@ ghost use mathlib.Core.Path.{_≡_};
 ghost use Rattle.bitmap.specs.Marks.{trailingOnes};
 ghost use Rattle.card.specs.Window.{anyHeld, beforeHeld, oldestHeld};
 ghost use Rattle.card.specs.Card.{isAck, chooseRefusal};
-ghost use Rattle.card_words.specs.Words.{cardOf, orNotCard};
+ghost use Rattle.card_words.specs.Words.{cardOf, orOtherLength};
 ghost use Rattle.card_send.specs.Choices.{chosenPart, chosenIn};
 
 // A choice: its refusal, 0 for none, and a part of the lent acknowledgement, where lent says so, else of the slots; no
@@ -23,7 +23,7 @@ pub struct Choice {
 
 // ---- held frames
 
-// How many of the first marks, at most so many, are set before the first clear one.
+// How many of the first `most` marks are set before the first clear one.
 fn run_within(marks: u64, most: u16) -> u16
     ensures { λ r. ⌜ r ≡ trailingOnes most marks ⌝ }
 {
@@ -74,11 +74,11 @@ fn is_ack(ack: &[u8]) -> bool
 
 // The refusal of choosing, 0 for none.
 pub fn choose_refusal(words: &[u64], slots: &[u8], ack: &[u8]) -> u8
-    ensures { λ r. ⌜ r ≡ orNotCard (now (words .entry))
+    ensures { λ r. ⌜ r ≡ orOtherLength (now (words .entry))
         (chooseRefusal (cardOf (now (words .entry))) (now (slots .entry)) (now (ack .entry))) ⌝ }
 {
     if words.len() != card_words::CARD_WORDS {
-        return card_words::NOT_CARD;
+        return card_words::OTHER_LENGTH;
     }
     let h = card_words::head_of(words);
     if !card::is_fitting(h.limit as usize, slots) {

@@ -6,7 +6,7 @@ use seq::FrameNo;
 ghost use mathlib.Core.Path.{_≡_};
 ghost use Rattle.card.specs.Window.{held};
 ghost use Rattle.card.specs.Card.{frameIn, showRefusal};
-ghost use Rattle.card_words.specs.Words.{cardOf, orNotCard};
+ghost use Rattle.card_words.specs.Words.{cardOf, orOtherLength};
 ghost use Rattle.card_send.specs.Parts.{framePart, shownPart, shownIn};
 
 // A part of a lent buffer.
@@ -65,10 +65,10 @@ pub(crate) fn sealed_frame<'a>(words: &[u64], slots: &'a [u8], n: FrameNo) -> &'
 // The refusal of showing a frame, 0 for none.
 pub fn show_refusal(words: &[u64], slots: &[u8], n: FrameNo) -> u8
     ensures { λ r.
-        ⌜ r ≡ orNotCard (now (words .entry)) (showRefusal (cardOf (now (words .entry))) (now (slots .entry)) (n .0)) ⌝ }
+        ⌜ r ≡ orOtherLength (now (words .entry)) (showRefusal (cardOf (now (words .entry))) (now (slots .entry)) (n .0)) ⌝ }
 {
     if words.len() != card_words::CARD_WORDS {
-        return card_words::NOT_CARD;
+        return card_words::OTHER_LENGTH;
     }
     let h = card_words::head_of(words);
     if !card::is_fitting(h.limit as usize, slots) {

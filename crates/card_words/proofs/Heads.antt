@@ -9,9 +9,9 @@ use Rattle.seq.specs.Ring.{frameSpace, distance}
 use Rattle.card.specs.Window.{unreleased}
 use Rattle.card.specs.Card.{fits}
 use Rattle.card_words.specs.declared.Head.{Head}
-use Rattle.card_words.specs.Words.{cardOf, headOf}
+use Rattle.card_words.specs.Words.{cardOf, headPart}
 
-module _ (w : List ℕ) (h : Head) (head-is : h ≡ headOf (cardOf w)) where
+module _ (w : List ℕ) (h : Head) (head-is : h ≡ headPart (cardOf w)) where
   -- whether the slot buffer fits the limit
   module _ (slots : List ℕ) (b : Bool) (is : b ≡ fits (h .limit) slots) where
     pub unfit : not b ≡ true → fits (cardOf w .limit) slots ≡ false

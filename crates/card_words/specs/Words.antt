@@ -60,8 +60,8 @@ cardOf w = record {
 
 -- ---- a card in parts: its head, the lengths of its frames, its transactions
 
-abbrev pub headOf : Card → Head
-headOf c = record {
+abbrev pub headPart : Card → Head
+headPart c = record {
   own = c .own;
   peer = c .peer;
   limit = c .limit;
@@ -135,8 +135,8 @@ abbrev pub Steps : List ℕ → List ℕ → ℕ → Card → Type 0
 Steps w left refusal c = Becomes w left c × (refusal ≢ 0 → left ≡ w)
 
 -- A buffer of another length is refused by a number that the rules don't have.
-abbrev pub notCard : ℕ
-notCard = 255
+abbrev pub otherLength : ℕ
+otherLength = 255
 
-abbrev pub orNotCard : List ℕ → ℕ → ℕ
-orNotCard w refusal = cond (eqb (length w) cardWords) refusal notCard
+abbrev pub orOtherLength : List ℕ → ℕ → ℕ
+orOtherLength w refusal = cond (eqb (length w) cardWords) refusal otherLength

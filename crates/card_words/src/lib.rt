@@ -1,6 +1,6 @@
 // A card in 85 words that a caller lends, and reading its parts. Assumes nothing of the words: any are a card, which
 // specs/Words.antt decodes. It promises by that decoding what is read.
-pub mod store;
+pub mod update;
 
 use card::Sending;
 use seq::FrameNo;
@@ -8,13 +8,13 @@ use seq::TransNo;
 ghost use mathlib.Core.Path.{_≡_};
 ghost use Rattle.card.specs.Window.{sizeOf};
 ghost use Rattle.card.specs.Sendings.{sendingAt};
-ghost use Rattle.card_words.specs.Words.{cardOf, headOf};
+ghost use Rattle.card_words.specs.Words.{cardOf, headPart};
 
-// How many words a card takes.
+// A card takes words of this length.
 pub const CARD_WORDS: usize = 85;
 
-// The answer to a buffer of another length. The rules have no such number.
-pub const NOT_CARD: u8 = 255;
+// The answer to words of another length: no refusal of the rules.
+pub const OTHER_LENGTH: u8 = 255;
 
 // What a card holds beside the lengths of its frames and its transactions. upcoming is the number that the next opening
 // of a transaction gives.
@@ -33,7 +33,7 @@ pub struct Head {
 }
 
 pub fn head_of(w: &[u64]) -> Head
-    ensures { λ r. ⌜ r ≡ headOf (cardOf (now (w .entry))) ⌝ }
+    ensures { λ r. ⌜ r ≡ headPart (cardOf (now (w .entry))) ⌝ }
 {
     let ids = words::word(w, 0);
     let frames = words::word(w, 1);

@@ -1,5 +1,5 @@
 -- The plain book. It is fed the starting memory and what `System.Observation` shows, and sees neither end's state.
--- Transactions and frames are counted from 0 and never come round.
+-- Transactions and frames are counted from 0 and never wrap.
 use Prim.Native.Nat.{ℕ, zero, suc, _+_}
 use mathlib.Core.Bool.{Bool, true, false, cond, not, _&&_}
 use mathlib.Core.List.{List, [], _∷_, _++_}

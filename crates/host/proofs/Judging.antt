@@ -15,25 +15,25 @@ use Rattle.wire.proofs.Format.{needed-count}
 use Rattle.host.specs.declared.Open.{Open}
 use Rattle.host.specs.Terms.{agrees, messageRefusal}
 use Rattle.host.proofs.Passing.{message-pass}
-use Rattle.host.specs.Transactions.{fills, refusing, closing, holding, verdictOf}
+use Rattle.host.specs.Transactions.{fills, refusedVerdict, closedVerdict, openVerdict, verdictOf}
 
 -- the three verdicts
 module _ (lowest closed : ℕ) (o : Open) (h : MessageHeader) (len size d r : ℕ)
     (d-is : d ≡ distance transSpace lowest (h .trans .0))
     (r-is : r ≡ messageRefusal d closed o h len size) where
-  opened : cond (eqb r 0) (cond (fills o h) (closing lowest closed d) (holding lowest closed o h))
-      (refusing r lowest closed o)
+  opened : cond (eqb r 0) (cond (fills o h) (closedVerdict lowest closed d) (openVerdict lowest closed o h))
+      (refusedVerdict r lowest closed o)
       ≡ verdictOf lowest closed o h len size
   unfolding verdictOf
   opened = rw (r-is, d-is)
 
-  pub is-refused : r ≢ 0 → refusing r lowest closed o ≡ verdictOf lowest closed o h len size
+  pub is-refused : r ≢ 0 → refusedVerdict r lowest closed o ≡ verdictOf lowest closed o h len size
   is-refused ne = sym (rw (ne-eqb r 0 ne)) ∙ opened
 
-  pub is-closing : r ≡ 0 → fills o h ≡ true → closing lowest closed d ≡ verdictOf lowest closed o h len size
+  pub is-closing : r ≡ 0 → fills o h ≡ true → closedVerdict lowest closed d ≡ verdictOf lowest closed o h len size
   is-closing e l = sym (rw (eq-eqb r 0 e, l)) ∙ opened
 
-  pub is-holding : r ≡ 0 → fills o h ≡ false → holding lowest closed o h ≡ verdictOf lowest closed o h len size
+  pub is-holding : r ≡ 0 → fills o h ≡ false → openVerdict lowest closed o h ≡ verdictOf lowest closed o h len size
   is-holding e l = sym (rw (eq-eqb r 0 e, l)) ∙ opened
 
 -- ---- a message that is not refused
@@ -65,7 +65,7 @@ module _ (lowest closed : ℕ) (o : Open) (h : MessageHeader) (len size : ℕ)
   none-of = messageRefusal away closed o h len size
 
   passed : none-of ≡ 0
-  unfolding verdictOf refusing
+  unfolding verdictOf refusedVerdict
   passed = go (eqb none-of 0) refl
     where
       go : (x : Bool) → eqb none-of 0 ≡ x → none-of ≡ 0
@@ -82,10 +82,10 @@ module _ (lowest closed : ℕ) (o : Open) (h : MessageHeader) (len size : ℕ)
   agreeing = message-pass away closed o h len size passed .2
 
   pub closes : fills o h ≡ true
-      → verdictOf lowest closed o h len size ≡ closing lowest closed (distance transSpace lowest (h .trans .0))
+      → verdictOf lowest closed o h len size ≡ closedVerdict lowest closed (distance transSpace lowest (h .trans .0))
   unfolding verdictOf
   closes e = rw (eq-eqb none-of 0 passed, e)
 
-  pub holds : fills o h ≡ false → verdictOf lowest closed o h len size ≡ holding lowest closed o h
+  pub holds : fills o h ≡ false → verdictOf lowest closed o h len size ≡ openVerdict lowest closed o h
   unfolding verdictOf
   holds e = rw (eq-eqb none-of 0 passed, e)

@@ -23,14 +23,14 @@ use Rattle.bitmap.proofs.Marks.{
   moved-clear,
 }
 use Rattle.octets.specs.Octets.{Bytes}
-use Rattle.wire.specs.Format.{Message, headOf}
+use Rattle.wire.specs.Format.{Message, messageHeader}
 use Rattle.wire.specs.Reading.{number, flags, refusalOf}
 use Rattle.wire.proofs.Reading.{readable}
 use Rattle.wire.proofs.RoundTrip.{Fits, AllFit, messages-fit}
 use Rattle.host.specs.declared.Open.{Open}
 use Rattle.host.specs.Terms.{free}
 use Rattle.host.specs.declared.Verdict.{Verdict}
-use Rattle.host.specs.Transactions.{fills, closing, holding, Transactions, verdict, after}
+use Rattle.host.specs.Transactions.{fills, closedVerdict, openVerdict, Transactions, verdict, after}
 use Rattle.host.proofs.Passing.{agreed-count}
 use Rattle.host.proofs.Judging.{in-window, agreeing, closes, holds, fills-left}
 use Rattle.host.specs.declared.Pair.{Pair}
@@ -56,7 +56,7 @@ use Rattle.host.proofs.Receiving.{reading, received-refused, received-n
 
 -- ---- entries of the table
 
--- the space of transaction numbers is a multiple of 32: an entry goes on with the numbers where those come round
+-- the space of transaction numbers is a multiple of 32: an entry goes on with the numbers where those wrap
 pub entry-is : (lowest j : ℕ) → advance transSpace lowest j % 32 ≡ (lowest + j) % 32
 unfolding advance
 entry-is lowest j = omega arith
@@ -177,8 +177,8 @@ module _ (t : Transactions) (s : Orderly t) (i d : ℕ) (near : d < 32) (i-is : 
 -- a message that is not refused
 pub verdict-keeps : (t : Transactions) (size : ℕ) (m : Message) → Orderly t → Fits m → verdict t size m .refusal ≡ 0
     → Orderly (after t m (verdict t size m))
-unfolding verdict after headOf closing holding marked run
-verdict-keeps t size m s f e = go (fills o (headOf m)) refl
+unfolding verdict after messageHeader closedVerdict openVerdict marked run
+verdict-keeps t size m s f e = go (fills o (messageHeader m)) refl
   where
     i : ℕ
     i = m .trans % 32
@@ -190,7 +190,7 @@ verdict-keeps t size m s f e = go (fills o (headOf m)) refl
     d = distance transSpace (t .lowest) (m .trans)
 
     window : (d < 32) × (mark (t .closed) d ≡ false)
-    window = in-window (t .lowest) (t .closed) o (headOf m) (length (m .bytes)) size e
+    window = in-window (t .lowest) (t .closed) o (messageHeader m) (length (m .bytes)) size e
 
     i-is : i ≡ (t .lowest + d) % 32
     i-is = entry-of (t .lowest) (m .trans) (s .lowest-fits) (f .trans-fits)
@@ -201,17 +201,17 @@ verdict-keeps t size m s f e = go (fills o (headOf m)) refl
         of : (o ≡ free) ⊎ Underway o → (o .received ≡ 0) ⊎ (o .received < m .count)
         of (inl q) = inl (ap (λ (x : Open). x .received) q)
         of (inr u) =
-            let c = agreed-count o (headOf m) (agreeing (t .lowest) (t .closed) o (headOf m) (length (m .bytes)) size e)
+            let c = agreed-count o (messageHeader m) (agreeing (t .lowest) (t .closed) o (messageHeader m) (length (m .bytes)) size e)
             (λ q. omega (arith, q, u .some-received)) in
             inr (omega (arith, c, u .some-to-come))
 
-    go : (b : Bool) → fills o (headOf m) ≡ b → Orderly (after t m (verdict t size m))
+    go : (b : Bool) → fills o (messageHeader m) ≡ b → Orderly (after t m (verdict t size m))
     go true z =
-        rw (closes (t .lowest) (t .closed) o (headOf m) (length (m .bytes)) size e z)
+        rw (closes (t .lowest) (t .closed) o (messageHeader m) (length (m .bytes)) size e z)
         (closing-keeps t s i d (window .0) i-is (window .1))
     go false z =
-        let more : suc (o .received) < m .count = fills-left o (headOf m) fewer z in
-        rw (holds (t .lowest) (t .closed) o (headOf m) (length (m .bytes)) size e z)
+        let more : suc (o .received) < m .count = fills-left o (messageHeader m) fewer z in
+        rw (holds (t .lowest) (t .closed) o (messageHeader m) (length (m .bytes)) size e z)
         (holding-keeps t s i d (window .0) i-is (window .1) _ (record {
           some-received = omega (arith, more, f .count-fits);
           some-to-come = omega (arith, more, f .count-fits);

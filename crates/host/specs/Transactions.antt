@@ -9,7 +9,7 @@ use Rattle.seq.specs.Ring.{distance, transSpace}
 use Rattle.bitmap.specs.Marks.{withMark}
 use Rattle.bitmap.specs.Window.{moved}
 use Rattle.wire.specs.declared.MessageHeader.{MessageHeader}
-use Rattle.wire.specs.Format.{Message, headOf, needed}
+use Rattle.wire.specs.Format.{Message, messageHeader, needed}
 use Rattle.host.specs.declared.Open.{Open}
 use Rattle.host.specs.Terms.{free, messageRefusal}
 use Rattle.host.specs.declared.Verdict.{Verdict}
@@ -20,9 +20,9 @@ unfoldable pub fills : Open → MessageHeader → Bool
 fills o h = eqb (needed (h .count)) (suc (o .received))
 
 -- A transaction's entry with one message more, which does not complete it. Received has 16 bits and counts modulo
--- 65,536: in a pair that a run reaches it is below the count and does not come round.
-abbrev pub oneMore : Open → MessageHeader → Open
-oneMore o h = record {
+-- 65,536: in a pair that a run reaches it is below the count and does not wrap.
+abbrev pub oneReceived : Open → MessageHeader → Open
+oneReceived o h = record {
   count = h .count;
   address = h .«completion_address»;
   value = h .«completion_value»;
@@ -31,12 +31,12 @@ oneMore o h = record {
 
 -- What a message that is not refused leaves of its transaction's entry.
 abbrev pub leftIn : Open → MessageHeader → Open
-leftIn o h = cond (fills o h) free (oneMore o h)
+leftIn o h = cond (fills o h) free (oneReceived o h)
 
 -- The verdict on a message: refused and nothing changed; or its transaction is complete, so that it is closed and the
 -- window begins at the first that is not; or it is open with one message more.
-unfoldable pub refusing : ℕ → ℕ → ℕ → Open → Verdict
-refusing r lowest closed o = record {
+unfoldable pub refusedVerdict : ℕ → ℕ → ℕ → Open → Verdict
+refusedVerdict r lowest closed o = record {
   refusal = r;
   done = false;
   lowest = record { 0 = lowest };
@@ -44,8 +44,8 @@ refusing r lowest closed o = record {
   entry = o;
 }
 
-unfoldable pub closing : ℕ → ℕ → ℕ → Verdict
-closing lowest closed d =
+unfoldable pub closedVerdict : ℕ → ℕ → ℕ → Verdict
+closedVerdict lowest closed d =
     let window = moved transSpace 32 lowest (withMark 32 closed d) in
     record {
       refusal = 0;
@@ -55,20 +55,20 @@ closing lowest closed d =
       entry = free;
     }
 
-unfoldable pub holding : ℕ → ℕ → Open → MessageHeader → Verdict
-holding lowest closed o h = record {
+unfoldable pub openVerdict : ℕ → ℕ → Open → MessageHeader → Verdict
+openVerdict lowest closed o h = record {
   refusal = 0;
   done = false;
   lowest = record { 0 = lowest };
   closed = closed;
-  entry = oneMore o h;
+  entry = oneReceived o h;
 }
 
 unfoldable pub verdictOf : ℕ → ℕ → Open → MessageHeader → ℕ → ℕ → Verdict
 verdictOf lowest closed o h len size =
     let d = distance transSpace lowest (h .trans .0) in
     let r = messageRefusal d closed o h len size in
-    cond (eqb r 0) (cond (fills o h) (closing lowest closed d) (holding lowest closed o h)) (refusing r lowest closed o)
+    cond (eqb r 0) (cond (fills o h) (closedVerdict lowest closed d) (openVerdict lowest closed o h)) (refusedVerdict r lowest closed o)
 
 -- ---- the whole table
 
@@ -82,7 +82,7 @@ pub record Transactions : Type 0 where
 -- The verdict on a message, and the transactions after it.
 unfoldable pub verdict : Transactions → ℕ → Message → Verdict
 verdict t size m =
-    verdictOf (t .lowest) (t .closed) (getD (t .table) (m .trans % 32) free) (headOf m) (length (m .bytes)) size
+    verdictOf (t .lowest) (t .closed) (getD (t .table) (m .trans % 32) free) (messageHeader m) (length (m .bytes)) size
 
 unfoldable pub after : Transactions → Message → Verdict → Transactions
 after t m v = record {

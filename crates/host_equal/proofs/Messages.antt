@@ -13,11 +13,11 @@ use Rattle.seq.specs.Ring.{distance, transSpace}
 use Rattle.bitmap.specs.Marks.{mark, withMark}
 use Rattle.bitmap.proofs.Marks.{withMark-lt, moved-lt}
 use Rattle.wire.specs.declared.MessageHeader.{MessageHeader}
-use Rattle.wire.specs.Format.{Message, headOf, needed}
+use Rattle.wire.specs.Format.{Message, messageHeader, needed}
 use Rattle.host.specs.declared.Open.{Open}
 use Rattle.host.specs.Terms.{free, agrees, termsRefusal, addressRefusal, firstOf, messageRefusal}
 use Rattle.host.specs.declared.Verdict.{Verdict}
-use Rattle.host.specs.Transactions.{fills, refusing, closing, holding, verdictOf, Transactions, verdict, after}
+use Rattle.host.specs.Transactions.{fills, refusedVerdict, closedVerdict, openVerdict, verdictOf, Transactions, verdict, after}
 use Rattle.host.proofs.Judging.{in-window, closes, holds}
 use Rattle.host.specs.Host.{effect, Tally, takeIn, Taken, fine, wrong, takeAll}
 use Rattle.host_plain.specs.declared.PlainTransactions.{PlainTransactions}
@@ -73,12 +73,12 @@ module _ (t : Transactions) (fits : t .closed < 2 ^ 32) (h : MessageHeader) (len
   v = verdictOf (t .lowest) (t .closed) o h len size
 
   refusal-is : v .refusal ≡ r
-  unfolding verdictOf refusing closing holding
+  unfolding verdictOf refusedVerdict closedVerdict openVerdict
   refusal-is = go (eqb r 0) refl (fills o h)
     where
       go : (b : Bool) → eqb r 0 ≡ b → (c : Bool)
-          → cond b (cond c (closing (t .lowest) (t .closed) d) (holding (t .lowest) (t .closed) o h))
-          (refusing r (t .lowest) (t .closed) o) .refusal ≡ r
+          → cond b (cond c (closedVerdict (t .lowest) (t .closed) d) (openVerdict (t .lowest) (t .closed) o h))
+          (refusedVerdict r (t .lowest) (t .closed) o) .refusal ≡ r
       go true z true = sym (eqb-true r 0 z)
       go true z false = sym (eqb-true r 0 z)
       go false z c = refl
@@ -103,7 +103,7 @@ module _ (t : Transactions) (fits : t .closed < 2 ^ 32) (h : MessageHeader) (len
     window = in-window (t .lowest) (t .closed) o h len size ok
 
     pub done-same : plain.completes (plain.entryOf (plainOf t) h) h ≡ v .done
-    unfolding plainOf closing holding
+    unfolding plainOf closedVerdict openVerdict
     done-same = completes-is o h ∙ go (fills o h) refl
       where
         go : (b : Bool) → fills o h ≡ b → fills o h ≡ v .done
@@ -117,7 +117,7 @@ module _ (t : Transactions) (fits : t .closed < 2 ^ 32) (h : MessageHeader) (len
           table = set (t .table) (h .trans .0 % 32)
               (v .entry);
         }
-    unfolding plain.after plain.closing plain.keeping plainOf closing holding
+    unfolding plain.after plain.closedBy plain.keeping plainOf closedVerdict openVerdict
     after-same = go (fills o h) refl
       where
         go : (b : Bool) → fills o h ≡ b → plain.after (plainOf t) h
@@ -138,7 +138,7 @@ module _ (t : Transactions) (fits : t .closed < 2 ^ 32) (h : MessageHeader) (len
         go false z = rw (completes-is o h, z, holds (t .lowest) (t .closed) o h len size ok z, add-one (o .received))
 
     pub after-fits : v .closed < 2 ^ 32
-    unfolding closing holding
+    unfolding closedVerdict openVerdict
     after-fits = go (fills o h) refl
       where
         marked-fits : withMark 32 (t .closed) d < 2 ^ 32
@@ -170,24 +170,24 @@ module _ (t : Tally) (fits : t .transactions .closed < 2 ^ 32) (m : Message) whe
   abbrev w : Verdict
   w = verdict (t .transactions) (length (t .memory)) m
 
-  verdict-same : plain.messageRefusal (plainOf (t .transactions)) (headOf m) (length (m .bytes)) (length (t .memory))
+  verdict-same : plain.messageRefusal (plainOf (t .transactions)) (messageHeader m) (length (m .bytes)) (length (t .memory))
       ≡ w .refusal
-  unfolding verdict headOf
-  verdict-same = refusal-same (t .transactions) fits (headOf m) (length (m .bytes)) (length (t .memory))
+  unfolding verdict messageHeader
+  verdict-same = refusal-same (t .transactions) fits (messageHeader m) (length (m .bytes)) (length (t .memory))
 
   module _ (ok : w .refusal ≡ 0) where
     take-in-same : plain.takeIn (plainTally t) m ≡ plainTally (takeIn t m w)
-    unfolding plain.takeIn takeIn plain.counted after plainOf verdict headOf
+    unfolding plain.takeIn takeIn plain.counted after plainOf verdict messageHeader
     take-in-same =
         rw (
-          done-same (t .transactions) fits (headOf m) (length (m .bytes)) (length (t .memory)) ok,
-          after-same (t .transactions) fits (headOf m) (length (m .bytes)) (length (t .memory)) ok,
+          done-same (t .transactions) fits (messageHeader m) (length (m .bytes)) (length (t .memory)) ok,
+          after-same (t .transactions) fits (messageHeader m) (length (m .bytes)) (length (t .memory)) ok,
           effect-same (t .memory) m (w .done),
         )
 
     take-in-fits : takeIn t m w .transactions .closed < 2 ^ 32
-    unfolding takeIn after verdict headOf
-    take-in-fits = after-fits (t .transactions) fits (headOf m) (length (m .bytes)) (length (t .memory)) ok
+    unfolding takeIn after verdict messageHeader
+    take-in-fits = after-fits (t .transactions) fits (messageHeader m) (length (m .bytes)) (length (t .memory)) ok
 
 pub take-same : (t : Tally) (place : ℕ) (ms : List Message) → t .transactions .closed < 2 ^ 32 → place ≡ t .messages
     → plain.takeAll (plainTally t) ms ≡ plainTaken (takeAll t place ms)

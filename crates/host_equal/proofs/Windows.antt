@@ -14,7 +14,7 @@ use Rattle.bitmap.proofs.Marks.{mark-shift, mark-past, mark-same, mark-other, m
 use Rattle.bitmap.proofs.Marks.{withMark-lt, ones-le, moved-lt, mark-ext, mark-marksOf, marksOf-lt}
 use Rattle.host.specs.declared.Open.{Open}
 use Rattle.host.specs.Terms.{free}
-use Rattle.host_plain.specs.Plain.{firstSet, movedBy}
+use Rattle.host_plain.specs.Plain.{leadingSet, movedBy}
 use Rattle.host_plain.proofs.Marks.{length-moved, moved-at}
 use Rattle.host_equal.specs.Described.{listOf, fromLowest, wordOf}
 
@@ -82,13 +82,13 @@ bits-of-word width marks len =
 
 -- ---- the run of set marks
 
-pub run-is : (width : ℕ) (p : ℕ → Bool) → firstSet (listOf width p) ≡ leading p width
-unfolding firstSet listOf leading
+pub run-is : (width : ℕ) (p : ℕ → Bool) → leadingSet (listOf width p) ≡ leading p width
+unfolding leadingSet listOf leading
 run-is zero p = refl
 run-is (suc n) p = go (p 0) (run-is n (λ i. p (suc i)))
   where
-    go : (b : Bool) → firstSet (listOf n (λ i. p (suc i))) ≡ leading (λ i. p (suc i)) n
-        → firstSet (b ∷ listOf n (λ i. p (suc i))) ≡ cond b (suc (leading (λ i. p (suc i)) n)) 0
+    go : (b : Bool) → leadingSet (listOf n (λ i. p (suc i))) ≡ leading (λ i. p (suc i)) n
+        → leadingSet (b ∷ listOf n (λ i. p (suc i))) ≡ cond b (suc (leading (λ i. p (suc i)) n)) 0
     go true e = ap suc e
     go false e = refl
 
@@ -123,11 +123,11 @@ module _ (width word d : ℕ) (fits : word < 2 ^ width) (near : d < width) where
   abbrev ones : ℕ
   ones = trailingOnes width marked
 
-  pub run-set : firstSet (set (bits width word) d true) ≡ trailingOnes width (withMark width word d)
+  pub run-set : leadingSet (set (bits width word) d true) ≡ trailingOnes width (withMark width word d)
   unfolding trailingOnes
-  run-set = ap firstSet set-is ∙ run-is width (mark marked)
+  run-set = ap leadingSet set-is ∙ run-is width (mark marked)
 
-  pub moved-set : movedBy (firstSet (set (bits width word) d true)) (set (bits width word) d true)
+  pub moved-set : movedBy (leadingSet (set (bits width word) d true)) (set (bits width word) d true)
       ≡ bits width (marked / 2 ^ ones)
   moved-set =
       rw (run-set, set-is)

@@ -13,7 +13,7 @@ use lib.ListN.{length, getD, set, replicate, length-set}
 use lib.Seq.{getD-set-same, getD-set-other}
 use Rattle.seq.specs.Ring.{advance, frameSpace, transSpace}
 use Rattle.octets.specs.Octets.{Bytes}
-use Rattle.wire.specs.Format.{Message, headOf}
+use Rattle.wire.specs.Format.{Message, messageHeader}
 use Rattle.wire.specs.Reading.{
   number,
   flags,
@@ -38,7 +38,7 @@ use Rattle.host_plain.specs.Plain.{
   fresh,
   openedWith,
   openedOf,
-  firstSet,
+  leadingSet,
   movedBy,
   pastNext,
   isSettled,
@@ -48,7 +48,7 @@ use Rattle.host_plain.specs.Plain.{
   entryOf,
   messageRefusal,
   completes,
-  closing,
+  closedBy,
   keeping,
   after,
   Tally,
@@ -116,9 +116,9 @@ each-set table i o l fits all k = go (decLe k i) (decLe i k)
 
 -- a window keeps its length where a mark is set and it moves past the set ones
 window-length : (marks : List Bool) (i n : ℕ) → length marks ≡ n
-    → length (movedBy (firstSet (set marks i true)) (set marks i true)) ≡ n
+    → length (movedBy (leadingSet (set marks i true)) (set marks i true)) ≡ n
 window-length marks i n e =
-    length-moved (firstSet (set marks i true)) (set marks i true) (set-le (set marks i true))
+    length-moved (leadingSet (set marks i true)) (set marks i true) (set-le (set marks i true))
     ∙ length-set marks i true
     ∙ e
 
@@ -158,18 +158,18 @@ module _ (t : PlainTransactions) (s : TransactionsFit t) (m : Message) (f : Fits
   in-table : m .trans % 32 < length (t .table)
   in-table = omega (arith, s .entries)
 
-  closing-fits : TransactionsFit (closing t (headOf m))
-  unfolding closing headOf advance
+  closing-fits : TransactionsFit (closedBy t (messageHeader m))
+  unfolding closedBy messageHeader advance
   closing-fits =
       record {
         lowest-fits = omega arith;
-        closed-are = window-length (t .closed) (away t (headOf m)) 32 (s .closed-are);
+        closed-are = window-length (t .closed) (away t (messageHeader m)) 32 (s .closed-are);
         entries = length-set (t .table) (m .trans % 32) free ∙ s .entries;
         each = each-set (t .table) (m .trans % 32) free in-table free-fits (s .each);
       }
 
-  keeping-fits : TransactionsFit (keeping t (headOf m))
-  unfolding keeping headOf
+  keeping-fits : TransactionsFit (keeping t (messageHeader m))
+  unfolding keeping messageHeader
   keeping-fits =
       record {
         lowest-fits = s .lowest-fits;
@@ -185,11 +185,11 @@ module _ (t : PlainTransactions) (s : TransactionsFit t) (m : Message) (f : Fits
             (s .each);
       }
 
-  after-fits : TransactionsFit (after t (headOf m))
+  after-fits : TransactionsFit (after t (messageHeader m))
   unfolding after
-  after-fits = go (completes (entryOf t (headOf m)) (headOf m))
+  after-fits = go (completes (entryOf t (messageHeader m)) (messageHeader m))
     where
-      go : (b : Bool) → TransactionsFit (cond b (closing t (headOf m)) (keeping t (headOf m)))
+      go : (b : Bool) → TransactionsFit (cond b (closedBy t (messageHeader m)) (keeping t (messageHeader m)))
       go true = closing-fits
       go false = keeping-fits
 
@@ -203,7 +203,7 @@ taken-fits t [] s f = s
 taken-fits t (m ∷ ms) s f = go (eqb r 0) (taken-fits (takeIn t m) ms (after-fits (t .transactions) s m (f .0)) (f .1))
   where
     r : ℕ
-    r = messageRefusal (t .transactions) (headOf m) (length (m .bytes)) (length (t .memory))
+    r = messageRefusal (t .transactions) (messageHeader m) (length (m .bytes)) (length (t .memory))
 
     go : (b : Bool) → TakenFits (takeAll (takeIn t m) ms)
         → TakenFits (cond b (takeAll (takeIn t m) ms) (refusedAt r (t .sums .messages)))

@@ -1,4 +1,4 @@
--- Laws of windows of marks, of any length: moving along, and the firstSet of set marks. And the loops that move them.
+-- Laws of windows of marks, of any length: moving along, and the leadingSet of set marks. And the loops that move them.
 -- Assumes nothing.
 use mathlib.Core.Path.{_≡_, refl, sym, ap, _∙_}
 use mathlib.Core.Logic.{_≢_}
@@ -11,7 +11,7 @@ use native.Mathlib.Decide.{decLt}
 use native.Mathlib.Omega.{arith}
 use lib.ListN.{length, getD, set, drop, replicate, length-append, length-drop, length-set}
 use lib.Seq.{ext-getD, getD-set-same, getD-set-other}
-use Rattle.host_plain.specs.Plain.{firstSet, movedBy}
+use Rattle.host_plain.specs.Plain.{leadingSet, movedBy}
 
 -- ---- moving along
 
@@ -72,28 +72,28 @@ moved-none marks =
     same-marks marks (movedBy 0 marks) (sym (length-moved 0 marks (omega arith)))
     (λ i. sym (rw zero-add at (moved-at 0 marks i)))
 
--- ---- the firstSet of set marks
+-- ---- the leadingSet of set marks
 
-pub set-le : (marks : List Bool) → firstSet marks ≤ length marks
-unfolding firstSet
+pub set-le : (marks : List Bool) → leadingSet marks ≤ length marks
+unfolding leadingSet
 set-le [] = omega arith
 set-le (true ∷ marks) = omega (arith, set-le marks)
 set-le (false ∷ marks) = omega arith
 
-set-clear : (marks : List Bool) → firstSet (marks ++ false ∷ []) ≡ firstSet marks
-unfolding firstSet
+set-clear : (marks : List Bool) → leadingSet (marks ++ false ∷ []) ≡ leadingSet marks
+unfolding leadingSet
 set-clear [] = refl
 set-clear (true ∷ marks) = ap suc (set-clear marks)
 set-clear (false ∷ marks) = refl
 
-pub set-stops : (marks : List Bool) → getD marks 0 false ≡ false → firstSet marks ≡ 0
-unfolding firstSet
+pub set-stops : (marks : List Bool) → getD marks 0 false ≡ false → leadingSet marks ≡ 0
+unfolding leadingSet
 set-stops [] e = refl
 set-stops (true ∷ marks) e = absurd (true≢false e)
 set-stops (false ∷ marks) e = refl
 
-pub set-on : (marks : List Bool) → getD marks 0 false ≡ true → firstSet marks ≡ suc (firstSet (movedBy 1 marks))
-unfolding firstSet movedBy
+pub set-on : (marks : List Bool) → getD marks 0 false ≡ true → leadingSet marks ≡ suc (leadingSet (movedBy 1 marks))
+unfolding leadingSet movedBy
 set-on [] e = absurd (true≢false (sym e))
 set-on (true ∷ marks) e = ap suc (sym (set-clear marks))
 set-on (false ∷ marks) e = absurd (true≢false (sym e))
@@ -168,14 +168,14 @@ moving-done {before} {marks} {last} {i} h k =
 pub record Passing (before marks : List Bool) (places : ℕ) : Type 0 where
   pub some : 0 < length before
   pub len : length marks ≡ length before
-  pub left : firstSet before ≡ places + firstSet marks
+  pub left : leadingSet before ≡ places + leadingSet marks
   pub marks-are : marks ≡ movedBy places before
 
 pub passing-start : (before : List Bool) → 0 < length before → Passing before before 0
 passing-start before h = record { some = h; len = refl; left = omega arith; marks-are = moved-none before }
 
 pub passing-turn : {before marks now : List Bool} {places : ℕ} → getD marks 0 false ≡ true → Passing before marks places
-    → now ≡ movedBy 1 marks → (Passing before now (places + 1)) × (firstSet now < firstSet marks)
+    → now ≡ movedBy 1 marks → (Passing before now (places + 1)) × (leadingSet now < leadingSet marks)
 passing-turn {before} {marks} {now} {places} h k e =
     let one = set-on marks h in
     let room : places + 1 ≤ length before = omega (arith, k .left, one, set-le before) in (
@@ -189,7 +189,7 @@ passing-turn {before} {marks} {now} {places} h k e =
     )
 
 pub passing-done : {before marks : List Bool} {places : ℕ} → getD marks 0 false ≡ false → Passing before marks places
-    → (places ≡ firstSet before) × (marks ≡ movedBy (firstSet before) before)
+    → (places ≡ leadingSet before) × (marks ≡ movedBy (leadingSet before) before)
 passing-done {before} {marks} {places} h k =
-    let e : places ≡ firstSet before = omega (arith, k .left, set-stops marks h) in
+    let e : places ≡ leadingSet before = omega (arith, k .left, set-stops marks h) in
     (e, k .marks-are ∙ ap (λ (n : ℕ). movedBy n before) e)

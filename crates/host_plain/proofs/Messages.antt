@@ -16,7 +16,7 @@ use Rattle.wire.specs.declared.MessageHeader.{MessageHeader}
 use Rattle.host_plain.specs.Plain.{free}
 use Rattle.host_plain.specs.declared.PlainTransactions.{PlainTransactions}
 use Rattle.host_plain.specs.Plain.{
-  firstSet,
+  leadingSet,
   movedBy,
   isSet,
   away,
@@ -24,7 +24,7 @@ use Rattle.host_plain.specs.Plain.{
   differs,
   messageRefusal,
   completes,
-  closing,
+  closedBy,
   keeping,
   after,
 }
@@ -114,15 +114,15 @@ in-window t h len size r r-is z = go (decLe 32 (away t h))
 
 pub closing-is : (t : PlainTransactions) (h : MessageHeader) (d places : ℕ) (lowest : TransNo) (closed : List Bool)
     → d ≡ away t h
-    → places ≡ firstSet (set (t .closed) d true)
-    → closed ≡ movedBy (firstSet (set (t .closed) d true)) (set (t .closed) d true)
+    → places ≡ leadingSet (set (t .closed) d true)
+    → closed ≡ movedBy (leadingSet (set (t .closed) d true)) (set (t .closed) d true)
     → lowest .0 ≡ advance transSpace (t .lowest .0) places
-    → record { lowest = lowest; closed = closed; table = set (t .table) (h .trans .0 % 32) free } ≡ closing t h
-unfolding closing
+    → record { lowest = lowest; closed = closed; table = set (t .table) (h .trans .0 % 32) free } ≡ closedBy t h
+unfolding closedBy
 closing-is t h d places lowest closed d-is p-is c-is l-is = rw (← d-is, c-is, ← p-is, ← l-is)
 
 pub after-closing : (t : PlainTransactions) (h : MessageHeader) → completes (entryOf t h) h ≡ true
-    → closing t h ≡ after t h
+    → closedBy t h ≡ after t h
 unfolding after
 after-closing t h e = rw e
 

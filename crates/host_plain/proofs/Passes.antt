@@ -12,7 +12,7 @@ use lib.ListN.{length}
 use Rattle.octets.specs.Octets.{little, written}
 use Rattle.octets.proofs.Octets.{length-written}
 use Rattle.wire.specs.declared.MessageHeader.{MessageHeader}
-use Rattle.wire.specs.Format.{Message, headOf, carrying}
+use Rattle.wire.specs.Format.{Message, messageHeader, carrying}
 use Rattle.wire.specs.Reading.{dataEnd, messageAt, messagesFrom}
 use Rattle.wire.proofs.Reading.{Headed, headed, unread}
 use Rattle.wire_read.specs.declared.Found.the-variants.{PastEnd}
@@ -52,7 +52,7 @@ abbrev pub tally : PlainTransactions → List ℕ → Sums → Tally
 tally t memory sums = record { transactions = t; memory = memory; sums = sums }
 
 module _ (t : PlainTransactions) (memory : List ℕ) (sums : Sums) (m : Message) (ms : List Message) (r : ℕ)
-    (r-is : r ≡ messageRefusal t (headOf m) (length (m .bytes)) (length memory)) where
+    (r-is : r ≡ messageRefusal t (messageHeader m) (length (m .bytes)) (length memory)) where
   pub take-stops : r ≢ 0 → takeAll (tally t memory sums) (m ∷ ms) ≡ refusedAt r (sums .messages)
   unfolding takeAll
   take-stops ne = rw (← r-is, ne-eqb r 0 ne)
@@ -154,11 +154,11 @@ module _ {f m₀ : List ℕ} {writing : Bool} {t₀ : PlainTransactions} {memory
     abbrev m : Message
     m = messageAt f at
 
-    head-is : h ≡ headOf m
+    head-is : h ≡ messageHeader m
     unfolding headAt
     head-is = w .header-is
 
-    its-refusal : r ≡ messageRefusal t (headOf m) (length (m .bytes)) (length (g .stored))
+    its-refusal : r ≡ messageRefusal t (messageHeader m) (length (m .bytes)) (length (g .stored))
     its-refusal = r-is ∙ rw (head-is, memory-length, ← g .same-length, ← w .bytes-are)
 
     front : {whole : Taken} {now : Tally} (l : Left f at whole now) → (n : ℕ) × Headed f at n (l .rest)
@@ -190,7 +190,7 @@ module _ {f m₀ : List ℕ} {writing : Bool} {t₀ : PlainTransactions} {memory
     module _ (ok : r ≡ 0) (done : Bool) (done-is : done ≡ completes (entryOf t h) h) {memory′ : List ℕ}
         (memory′-is : memory′ ≡ cond writing (effect memory (carrying h (dataAt f at)) done) memory) where
       carried : carrying h (dataAt f at) ≡ m
-      unfolding carrying headAt headOf dataAt
+      unfolding carrying headAt messageHeader dataAt
       carried = rw (w .header-is, le-leb (dataEnd f at) (length f) (w .inside-frame))
 
       stored′ : List ℕ

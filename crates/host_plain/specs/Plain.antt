@@ -10,7 +10,7 @@ use lib.ListN.{length, getD, set, drop, replicate}
 use Rattle.seq.specs.Ring.{distance, advance, frameSpace, transSpace}
 use Rattle.octets.specs.Octets.{little, written}
 use Rattle.wire.specs.declared.MessageHeader.{MessageHeader}
-use Rattle.wire.specs.Format.{Message, headOf}
+use Rattle.wire.specs.Format.{Message, messageHeader}
 use Rattle.wire.specs.Reading.{number, flags, addressed, Read, bad, good, readFrame}
 use Rattle.wire.specs.Writing.{ackFrame}
 use Rattle.host.specs.declared.Open.{Open}
@@ -49,10 +49,10 @@ openedOf own peer = cond (eqb own 0 || eqb peer 0) (openedWith 0 0 13) (openedWi
 -- ---- windows of marks
 
 -- How many marks from the first on are set before one that is not.
-unfoldable pub firstSet : List Bool → ℕ
-firstSet [] = 0
-firstSet (true ∷ marks) = suc (firstSet marks)
-firstSet (false ∷ marks) = 0
+unfoldable pub leadingSet : List Bool → ℕ
+leadingSet [] = 0
+leadingSet (true ∷ marks) = suc (leadingSet marks)
+leadingSet (false ∷ marks) = 0
 
 -- Marks moved along n places: the first n leave, and as many clear ones come in at the end.
 unfoldable pub movedBy : ℕ → List Bool → List Bool
@@ -82,8 +82,8 @@ unfoldable pub accepting : PlainFrames → ℕ → PlainFrames
 accepting s num =
     let marks = set (s .accepted) (pastNext s num) true in
     record {
-      next = record { 0 = advance frameSpace (s .next .0) (firstSet marks) };
-      accepted = movedBy (firstSet marks) marks;
+      next = record { 0 = advance frameSpace (s .next .0) (leadingSet marks) };
+      accepted = movedBy (leadingSet marks) marks;
     }
 
 -- ---- one message
@@ -118,17 +118,17 @@ unfoldable pub completes : Open → MessageHeader → Bool
 completes o h = eqb (o .received + 1) (cond (eqb (h .count) 0) 1 (h .count))
 
 -- A complete transaction is closed, and the window begins at the first that is not.
-unfoldable pub closing : PlainTransactions → MessageHeader → PlainTransactions
-closing t h =
+unfoldable pub closedBy : PlainTransactions → MessageHeader → PlainTransactions
+closedBy t h =
     let marks = set (t .closed) (away t h) true in
     record {
-      lowest = record { 0 = advance transSpace (t .lowest .0) (firstSet marks) };
-      closed = movedBy (firstSet marks) marks;
+      lowest = record { 0 = advance transSpace (t .lowest .0) (leadingSet marks) };
+      closed = movedBy (leadingSet marks) marks;
       table = set (t .table) (h .trans .0 % 32) free;
     }
 
 -- Any other one is open, with one message more received. (What is received has 16 bits. In a pair that a run reaches it
--- is below the count and does not come round.)
+-- is below the count and does not wrap.)
 unfoldable pub keeping : PlainTransactions → MessageHeader → PlainTransactions
 keeping t h = record {
   lowest = t .lowest;
@@ -144,7 +144,7 @@ keeping t h = record {
 }
 
 unfoldable pub after : PlainTransactions → MessageHeader → PlainTransactions
-after t h = cond (completes (entryOf t h) h) (closing t h) (keeping t h)
+after t h = cond (completes (entryOf t h) h) (closedBy t h) (keeping t h)
 
 -- A message's data is written, and straight after it the completion where the message completes its transaction.
 unfoldable pub effect : List ℕ → Message → Bool → List ℕ
@@ -168,9 +168,9 @@ pub record Tally : Type 0 where
 
 unfoldable pub takeIn : Tally → Message → Tally
 takeIn t m =
-    let done = completes (entryOf (t .transactions) (headOf m)) (headOf m) in
+    let done = completes (entryOf (t .transactions) (messageHeader m)) (messageHeader m) in
     record {
-      transactions = after (t .transactions) (headOf m);
+      transactions = after (t .transactions) (messageHeader m);
       memory = effect (t .memory) m done;
       sums = counted (t .sums) (length (m .bytes)) done;
     }
@@ -184,7 +184,7 @@ pub data Taken : Type 0 where
 unfoldable pub takeAll : Tally → List Message → Taken
 takeAll t [] = allTaken t
 takeAll t (m ∷ ms) =
-    let r = messageRefusal (t .transactions) (headOf m) (length (m .bytes)) (length (t .memory)) in
+    let r = messageRefusal (t .transactions) (messageHeader m) (length (m .bytes)) (length (t .memory)) in
     cond (eqb r 0) (takeAll (takeIn t m) ms) (refusedAt r (t .sums .messages))
 
 abbrev pub noSums : Sums

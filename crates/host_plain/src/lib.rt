@@ -105,8 +105,8 @@ fn move_one(marks: &mut [bool])
 // Moves marks along while the first is set, and answers by how many places.
 fn move_past_set(marks: &mut [bool]) -> u16
     requires { ⌜ (0 < length (now marks)) × (length (now marks) ≤ 64) ⌝ }
-    ensures { λ r. ⌜ r ≡ plain.firstSet (now (marks .entry)) ⌝ }
-    ensures { λ _. ⌜ now (marks .exit) ≡ plain.movedBy (plain.firstSet (now (marks .entry))) (now (marks .entry)) ⌝ }
+    ensures { λ r. ⌜ r ≡ plain.leadingSet (now (marks .entry)) ⌝ }
+    ensures { λ _. ⌜ now (marks .exit) ≡ plain.movedBy (plain.leadingSet (now (marks .entry))) (now (marks .entry)) ⌝ }
 {
     let mut places = 0;
     while marks[0] {

@@ -13,14 +13,14 @@ use borrow.Author.Tests.{eq-eqb, ne-eqb, eqb-true, eqb-false}
 use lib.Dec.{eqb}
 use lib.ListN.{length, getD}
 use Rattle.octets.specs.Octets.{field}
-use Rattle.wire.specs.Format.{Message, headOf, nextHeader}
+use Rattle.wire.specs.Format.{Message, messageHeader, nextHeader}
 use Rattle.wire.specs.Reading.{follows, dataEnd, messageAt, prepend, messagesFrom}
 use Rattle.wire.proofs.Reading.{Headed, unread, headed}
 use Rattle.wire_read.proofs.Finding.{step-last, step-more}
 use Rattle.host.specs.declared.Open.{Open}
 use Rattle.host.specs.declared.Verdict.{Verdict}
 use Rattle.host.specs.Terms.{free}
-use Rattle.host.specs.Transactions.{fills, leftIn, closing, holding, Transactions, verdict, after}
+use Rattle.host.specs.Transactions.{fills, leftIn, closedVerdict, openVerdict, Transactions, verdict, after}
 use Rattle.host.specs.Host.{effect, Tally, takeIn, fine, wrong, takeAll}
 use Rattle.host.proofs.Judging.{closes, holds}
 use Rattle.host.proofs.Receiving.{length-effect}
@@ -42,17 +42,17 @@ module _ (t : Transactions) (size : ℕ) (m : Message) (ok : verdict t size m .r
   abbrev o : Open
   o = getD (t .table) (m .trans % 32) free
 
-  settled : (verdict t size m .done ≡ fills o (headOf m)) × (verdict t size m .entry ≡ leftIn o (headOf m))
-  unfolding verdict closing holding
-  settled = go (fills o (headOf m)) refl
+  settled : (verdict t size m .done ≡ fills o (messageHeader m)) × (verdict t size m .entry ≡ leftIn o (messageHeader m))
+  unfolding verdict closedVerdict openVerdict
+  settled = go (fills o (messageHeader m)) refl
     where
-      go : (b : Bool) → fills o (headOf m) ≡ b
-          → (verdict t size m .done ≡ fills o (headOf m)) × (verdict t size m .entry ≡ leftIn o (headOf m))
+      go : (b : Bool) → fills o (messageHeader m) ≡ b
+          → (verdict t size m .done ≡ fills o (messageHeader m)) × (verdict t size m .entry ≡ leftIn o (messageHeader m))
       go true z =
-          let e = closes (t .lowest) (t .closed) o (headOf m) (length (m .bytes)) size ok z in
+          let e = closes (t .lowest) (t .closed) o (messageHeader m) (length (m .bytes)) size ok z in
           (rw (e, z), rw (e, z))
       go false z =
-          let e = holds (t .lowest) (t .closed) o (headOf m) (length (m .bytes)) size ok z in
+          let e = holds (t .lowest) (t .closed) o (messageHeader m) (length (m .bytes)) size ok z in
           (rw (e, z), rw (e, z))
 
 -- ---- taking in, by what is judged

@@ -9,7 +9,7 @@ use mathlib.Core.List.{List}
 use lib.Dec.{leb}
 use lib.ListN.{length, getD, set}
 use Rattle.wire.specs.declared.MessageHeader.{MessageHeader}
-use Rattle.wire.specs.Format.{headOf, nextHeader, carrying}
+use Rattle.wire.specs.Format.{messageHeader, nextHeader, carrying}
 use Rattle.wire.specs.Reading.{dataEnd, messageAt}
 use Rattle.host.specs.declared.Open.{Open}
 use Rattle.host.specs.Terms.{free}
@@ -30,8 +30,8 @@ appliedFrom (suc n) f at table memory =
     let m = messageAt f at in
     let o = getD table (m .trans % 32) free in
     cond (leb (dataEnd f at) (length f))
-    (appliedFrom n f (nextHeader (dataEnd f at)) (set table (m .trans % 32) (leftIn o (headOf m)))
-    (effect memory m (fills o (headOf m))))
+    (appliedFrom n f (nextHeader (dataEnd f at)) (set table (m .trans % 32) (leftIn o (messageHeader m)))
+    (effect memory m (fills o (messageHeader m))))
     (record { table = table; memory = memory })
 
 -- One message: its entry in the words, and memory.

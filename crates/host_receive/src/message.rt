@@ -43,14 +43,14 @@ fn terms_refusal(d: u32, closed: u32, o: Open, h: MessageHeader, len: u16) -> u8
     }
     let is_closed = word32::is_marked(closed, d);
     let is_same = has_same_terms(o, h);
-    let is_laden = is_bare_with_data(h, len);
+    let carries_data = is_bare_with_data(h, len);
     if is_closed {
         return refusal::TRANSACTION_CLOSED;
     }
     if !is_same {
         return refusal::TRANSACTION_DIFFERS;
     }
-    if is_laden {
+    if carries_data {
         return refusal::BARE_WITH_DATA;
     }
     0

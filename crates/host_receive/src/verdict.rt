@@ -8,29 +8,18 @@ use host::Verdict;
 use seq::TransNo;
 use wire::MessageHeader;
 ghost use mathlib.Core.Path.{_≡_};
-ghost use Rattle.wire.specs.Format.{needed};
-ghost use Rattle.host.specs.Transactions.{fills, oneMore, leftIn, closing, verdictOf};
-
-// The messages that a transaction takes: one bare one for count 0.
-fn messages_of(count: u16) -> u16
-    ensures { λ r. ⌜ r ≡ needed count ⌝ }
-{
-    if count == 0 {
-        return 1;
-    }
-    count
-}
+ghost use Rattle.host.specs.Transactions.{fills, oneReceived, leftIn, closedVerdict, verdictOf};
 
 // Whether the messages received equal the count, with this one: then it completes its transaction.
 pub(crate) fn completes(o: Open, h: MessageHeader) -> bool
     ensures { λ r. ⌜ r ≡ fills o h ⌝ }
 {
-    messages_of(h.count) as u32 == o.received as u32 + 1
+    wire::messages_needed(h.count) as u32 == o.received as u32 + 1
 }
 
 // The entry of a transaction with one message more, which does not complete it.
 pub(crate) fn one_more(o: Open, h: MessageHeader) -> Open
-    ensures { λ r. ⌜ r ≡ oneMore o h ⌝ }
+    ensures { λ r. ⌜ r ≡ oneReceived o h ⌝ }
 {
     Open {
         address: h.completion_address,
@@ -52,7 +41,7 @@ pub(crate) fn left_in(o: Open, h: MessageHeader) -> Open
 
 // The verdict on a message that completes its transaction, which lies d past the lowest one that is not complete.
 fn closed_after(lowest: TransNo, closed: u32, d: u32) -> Verdict
-    ensures { λ r. ⌜ r ≡ closing (lowest .0) closed d ⌝ }
+    ensures { λ r. ⌜ r ≡ closedVerdict (lowest .0) closed d ⌝ }
 {
     let marked = word32::with_mark(closed, d);
     let run = word32::trailing_ones(marked);

@@ -16,8 +16,8 @@ ghost use Rattle.hex.specs.Fields.{digitOf, hex, laid, linesOf};
 ghost use Rattle.host_stored.specs.Form.{
   headWidths,
   openWidths,
-  headOf,
-  openOf,
+  firstLine,
+  openLine,
   opensOf,
   notStored,
   storedOf,
@@ -56,7 +56,7 @@ fn put_line(out: &mut [u8], at: usize, bytes: &[u8]) -> usize
 }
 
 fn head_bytes(words: &[u64]) -> [u8; 23]
-    ensures { λ r. ⌜ r ≡ laid headWidths (headOf 1 (pairOf (now (words .entry)))) ⌝ }
+    ensures { λ r. ⌜ r ≡ laid headWidths (firstLine 1 (pairOf (now (words .entry)))) ⌝ }
 {
     let own = host_words::own(words);
     let peer = host_words::peer(words);
@@ -92,7 +92,7 @@ fn head_bytes(words: &[u64]) -> [u8; 23]
 }
 
 fn open_bytes(number: TransNo, o: Open) -> [u8; 16]
-    ensures { λ r. ⌜ r ≡ laid openWidths (openOf (number .0) o) ⌝ }
+    ensures { λ r. ⌜ r ≡ laid openWidths (openLine (number .0) o) ⌝ }
 {
     let n = number.0;
     let address = o.address;

@@ -12,13 +12,13 @@ use Rattle.host.specs.declared.Open.{Open}
 use Rattle.host.specs.Terms.{free}
 use Rattle.host.specs.declared.Pair.{Pair}
 use Rattle.hex.specs.Fields.{hex, laid, lineOf, linesOf}
-use Rattle.host_stored.specs.Form.{headWidths, openWidths, headOf, openOf, opensFrom, opensOf, textAs}
+use Rattle.host_stored.specs.Form.{headWidths, openWidths, firstLine, openLine, opensFrom, opensOf, textAs}
 
-pub head-length : (version : ℕ) (p : Pair) → length (lineOf headWidths (headOf version p)) ≡ 47
+pub head-length : (version : ℕ) (p : Pair) → length (lineOf headWidths (firstLine version p)) ≡ 47
 unfolding lineOf hex laid little
 head-length version p = refl
 
-pub open-length : (number : ℕ) (o : Open) → length (lineOf openWidths (openOf number o)) ≡ 33
+pub open-length : (number : ℕ) (o : Open) → length (lineOf openWidths (openLine number o)) ≡ 33
 unfolding lineOf hex laid little
 open-length number o = refl
 
@@ -40,13 +40,13 @@ module _ (lowest : ℕ) (table : List Open) where
       rest = opensFrom k (suc i) lowest table
 
       go : (b : Bool) → length (linesOf openWidths rest) ≡ 33 * length rest
-          → length (linesOf openWidths (cond b rest (openOf number o ∷ rest)))
-          ≡ 33 * length (cond b rest (openOf number o ∷ rest))
+          → length (linesOf openWidths (cond b rest (openLine number o ∷ rest)))
+          ≡ 33 * length (cond b rest (openLine number o ∷ rest))
       go true e = e
       go false e =
           omega (
             arith,
-            length-append (lineOf openWidths (openOf number o)) (linesOf openWidths rest),
+            length-append (lineOf openWidths (openLine number o)) (linesOf openWidths rest),
             open-length
                 number o,
           )
@@ -64,14 +64,14 @@ module _ (lowest : ℕ) (table : List Open) where
       rest = opensFrom k (suc i) lowest table
 
       go : (b : Bool) → length rest ≤ k
-          → length (cond b rest (openOf number (getD table (number % 32) free) ∷ rest)) ≤ suc k
+          → length (cond b rest (openLine number (getD table (number % 32) free) ∷ rest)) ≤ suc k
       go true h = omega arith
       go false h = omega arith
 
 pub text-length : (version : ℕ) (p : Pair) → length (textAs version p) ≡ 47 + 33 * length (opensOf p)
 unfolding textAs
 text-length version p =
-    length-append (lineOf headWidths (headOf version p)) (linesOf openWidths (opensOf p))
+    length-append (lineOf headWidths (firstLine version p)) (linesOf openWidths (opensOf p))
     ∙ rw (head-length version p, opens-length (p .lowest .0) (p .table) 32 0)
 
 -- 47 characters with no open transaction, 1,103 with 32

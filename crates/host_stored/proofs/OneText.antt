@@ -41,7 +41,7 @@ use Rattle.hex.proofs.fields.BothWays.{
 use Rattle.host_stored.specs.Form.{
   headWidths,
   openWidths,
-  headOf,
+  firstLine,
   opensOf,
   textAs,
   notStored,
@@ -73,7 +73,7 @@ use Rattle.host_stored.proofs.Opens.{
 
 -- ---- the first line
 
-head-fits : (version : ℕ) (p : Pair) → version < 256 → Typed p → Fitting headWidths (headOf version p)
+head-fits : (version : ℕ) (p : Pair) → version < 256 → Typed p → Fitting headWidths (firstLine version p)
 head-fits version p v t =
     and v (and (t .own-fits) (and (t .peer-fits) (and (t .next-fits) (and (t .marks-fit) (and (t .lowest-fits)
     (and (t .closed-fits) no-more))))))
@@ -143,7 +143,7 @@ typed-free k = rw (empty-free k) (record {
 
 -- the first line of a pair that its numbers make is these numbers
 head-is : (version : ℕ) (xs : List ℕ) (table : List Open) → Fitting headWidths xs → versionIn xs ≡ version
-    → headOf version (pairIn xs table) ≡ xs
+    → firstLine version (pairIn xs table) ≡ xs
 head-is version xs table (and a (and b (and c (and d (and e (and f (and g no-more))))))) v = rw (← v)
 
 pair-typed : {xs : List ℕ} {lines : List (List ℕ)} → Fitting headWidths xs → AllFitting openWidths lines

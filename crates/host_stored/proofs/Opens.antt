@@ -21,7 +21,7 @@ use Rattle.hex.specs.Fields.{Fitting, no-more, and, AllFitting, no-line, line}
 use Rattle.hex.proofs.fields.BothWays.{both}
 use Rattle.host_stored.specs.Form.{
   openWidths,
-  openOf,
+  openLine,
   opensFrom,
   numberIn,
   openIn,
@@ -185,7 +185,7 @@ opens-skip k i lowest table e = rw (eq-eqb (placed lowest table i .received) 0 e
 
 pub opens-take : (k i lowest : ℕ) (table : List Open) → placed lowest table i .received ≢ 0
     → opensFrom (suc k) i lowest table
-    ≡ openOf (advance transSpace lowest i) (placed lowest table i) ∷ opensFrom k (suc i) lowest table
+    ≡ openLine (advance transSpace lowest i) (placed lowest table i) ∷ opensFrom k (suc i) lowest table
 unfolding opensFrom
 opens-take k i lowest table e = rw (ne-eqb (placed lowest table i .received) 0 e)
 
@@ -199,7 +199,7 @@ module _ (lowest closed : ℕ) (low : lowest < transSpace) where
       ap (λ (n : ℕ). n % 32) (sym (advance-distance transSpace (omega arith) lowest (numberIn xs) low h))
 
   line-is : {xs : List ℕ} (i : ℕ) → Fitting openWidths xs → distance transSpace lowest (numberIn xs) ≡ i
-      → openOf (advance transSpace lowest i) (openIn xs) ≡ xs
+      → openLine (advance transSpace lowest i) (openIn xs) ≡ xs
   line-is i (and {x = n} h (and a (and b (and m (and r no-more))))) e =
       rw (← e, advance-distance transSpace (omega arith) lowest n low h)
 
@@ -397,7 +397,7 @@ module _ (lowest closed : ℕ) (low : lowest < transSpace) where
       step (inl e) further next = rw (opens-skip k i lowest table (ap (λ (o : Open). o .received) e)) further
       step (inr p) further next =
           let some : o .received ≢ 0 = λ e. omega (arith, p .some-received) in
-          let fines : Fines lowest closed bound (openOf number o) (opensFrom k (suc i) lowest table) = record {
+          let fines : Fines lowest closed bound (openLine number o) (opensFrom k (suc i) lowest table) = record {
             first = record {
               some-received = p .some-received;
               some-to-come = p .some-to-come;
@@ -470,7 +470,7 @@ opens-fit (suc k) i lowest table t =
   where
     go : (b : Bool) → TypedOpen (placed lowest table i) → AllFitting openWidths (opensFrom k (suc i) lowest table)
         → AllFitting openWidths (cond b (opensFrom k (suc i) lowest table)
-        (openOf (advance transSpace lowest i) (placed lowest table i) ∷ opensFrom k (suc i) lowest table))
+        (openLine (advance transSpace lowest i) (placed lowest table i) ∷ opensFrom k (suc i) lowest table))
     go true f fs = fs
     go false f fs =
         line

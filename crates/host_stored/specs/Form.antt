@@ -29,11 +29,11 @@ openWidths = 4 ∷ 4 ∷ 4 ∷ 2 ∷ 2 ∷ []
 
 -- ---- writing
 
-abbrev pub headOf : ℕ → Pair → List ℕ
-headOf version p = version ∷ p .own ∷ p .peer ∷ p .next .0 ∷ p .marks ∷ p .lowest .0 ∷ p .closed ∷ []
+abbrev pub firstLine : ℕ → Pair → List ℕ
+firstLine version p = version ∷ p .own ∷ p .peer ∷ p .next .0 ∷ p .marks ∷ p .lowest .0 ∷ p .closed ∷ []
 
-abbrev pub openOf : ℕ → Open → List ℕ
-openOf number o = number ∷ o .address ∷ o .value ∷ o .count ∷ o .received ∷ []
+abbrev pub openLine : ℕ → Open → List ℕ
+openLine number o = number ∷ o .address ∷ o .value ∷ o .count ∷ o .received ∷ []
 
 -- The open ones of the k transactions from the one i past the lowest on: nearest the lowest first. An entry of the
 -- table that has received nothing holds none.
@@ -42,13 +42,13 @@ opensFrom zero i lowest table = []
 opensFrom (suc k) i lowest table =
     let number = advance transSpace lowest i in
     let o = getD table (number % 32) free in
-    cond (eqb (o .received) 0) (opensFrom k (suc i) lowest table) (openOf number o ∷ opensFrom k (suc i) lowest table)
+    cond (eqb (o .received) 0) (opensFrom k (suc i) lowest table) (openLine number o ∷ opensFrom k (suc i) lowest table)
 
 abbrev pub opensOf : Pair → List (List ℕ)
 opensOf p = opensFrom 32 0 (p .lowest .0) (p .table)
 
 unfoldable pub textAs : ℕ → Pair → List ℕ
-textAs version p = lineOf headWidths (headOf version p) ++ linesOf openWidths (opensOf p)
+textAs version p = lineOf headWidths (firstLine version p) ++ linesOf openWidths (opensOf p)
 
 -- What storing answers, and the lent buffer after it: 13 where an ID is 0, before all else; 19 where the buffer is
 -- shorter than the text; a refusal writes nothing. Number 0 is no refusal.

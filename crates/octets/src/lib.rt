@@ -62,7 +62,7 @@ pub fn keep(memory: &mut [u8], at: usize, b: u8)
     }
 }
 
-// So many bytes from the start, or all where there are fewer.
+// The first `len` bytes, or all where there are fewer.
 pub fn front(s: &[u8], len: usize) -> &[u8]
     ensures { λ r. ⌜ now r ≡ take len (now (s .entry)) ⌝ }
 {

@@ -16,7 +16,7 @@ use Rattle.replay_text.specs.declared.Reply.{Reply}
 use Rattle.replay_text.specs.declared.Reply.the-variants.{Answered, Nothing, Refused}
 use Rattle.replay_text.specs.Text.{linesMost}
 use Rattle.replay_text.specs.Feeding.{
-  holding,
+  heldAfter,
   Replaying,
   withCharacters,
   lineAnswer,
@@ -86,7 +86,7 @@ further r = record { state = r .state; reply = r .reply; taken = suc (r .taken) 
 
 later : (s : Replaying) → s .closed ≡ false → s .lines < linesMost → (c : ℕ) (cs : List ℕ) → eqb c 10 ≡ false
     → feed s (c ∷ cs) ≡ further (feed (withCharacters (c ∷ []) s) cs)
-unfolding hasNewline upToNewline holding
+unfolding hasNewline upToNewline heldAfter
 later s o l c cs e = go (hasNewline cs) refl
   where
     go : (b : Bool) → hasNewline cs ≡ b → feed s (c ∷ cs) ≡ further (feed (withCharacters (c ∷ []) s) cs)
@@ -97,7 +97,7 @@ later s o l c cs e = go (hasNewline cs) refl
     go false n = feed-part s (c ∷ cs) o l (rw e n) ∙ sym (ap further (feed-part (withCharacters (c ∷ []) s) cs o l n))
 
 reads-line : (f rest : List ℕ) (s : Replaying) → s .closed ≡ false → s .lines < linesMost → Fits s f rest
-unfolding goOn hasNewline upToNewline holding
+unfolding goOn hasNewline upToNewline heldAfter
 reads-line [] rest s o l = rw (feed-part s [] o l refl)
 reads-line (c ∷ cs) rest s o l = go (eqb c 10) refl (reads-line cs rest (withCharacters (c ∷ []) s) o l)
   where

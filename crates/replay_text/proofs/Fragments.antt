@@ -17,7 +17,7 @@ use Rattle.replay_text.specs.Text.{
   totalsOf,
   output,
 }
-use Rattle.replay_text.specs.Feeding.{holding, Replaying, atStart, feed, hasLast, close, Run, feedEach}
+use Rattle.replay_text.specs.Feeding.{heldAfter, Replaying, atStart, feed, hasLast, close, Run, feedEach}
 use Rattle.replay_text.specs.Claim.{joined, lastCall, allAnswers, Replays, Refuses17}
 use Rattle.replay_text.proofs.Cutting.{closed, goOn, then, Goes, each-fits}
 use Rattle.replay_text.proofs.Whole.{totalling, Reading, Answers, all-answered}
@@ -33,7 +33,7 @@ close-totals s o = go (hasLast s) refl
     go false e = rw (e, o)
 
 begun : Reading atStart []
-unfolding atStart holding hasNewline
+unfolding atStart heldAfter hasNewline
 begun = record { held-is = refl; one-line = refl; is-open = refl }
 
 module _ (fragments : List (List ℕ)) where

@@ -31,7 +31,7 @@ use Rattle.host.specs.declared.Pair.{Pair}
 use Rattle.host.specs.Host.{unchanged, refused, receiveOf}
 use Rattle.host.proofs.TooLong.{too-long}
 use Rattle.replay_text.specs.Text.{answerTo}
-use Rattle.replay_text.specs.Feeding.{Held, within, past, nothingHeld, holdingOne, holding, answerHeld, isEmpty}
+use Rattle.replay_text.specs.Feeding.{Held, within, past, nothingHeld, heldAfterOne, heldAfter, answerHeld, isEmpty}
 use Rattle.replay_text.specs.Describing.{heldOf}
 
 -- ---- a character more
@@ -50,12 +50,12 @@ module _ (len half : ℕ) (odd bad : Bool) (frame : List ℕ) where
 -- the second half of a byte, where there is room for it and where there is not
 module _ (bytes : List ℕ) (h d : ℕ) (bad : Bool) where
   pub byte-kept : length bytes < 9000
-      → holdingOne (some d) (within bytes (some h) bad) ≡ within (bytes ++ (h * 16 + d) ∷ []) none bad
+      → heldAfterOne (some d) (within bytes (some h) bad) ≡ within (bytes ++ (h * 16 + d) ∷ []) none bad
   byte-kept l =
       ap (λ (b : Bool). cond b (within (bytes ++ (h * 16 + d) ∷ []) none bad) (past false bad))
       (lt-ltb (length bytes) 9000 l)
 
-  pub byte-past : 9000 ≤ length bytes → holdingOne (some d) (within bytes (some h) bad) ≡ past false bad
+  pub byte-past : 9000 ≤ length bytes → heldAfterOne (some d) (within bytes (some h) bad) ≡ past false bad
   byte-past l =
       ap (λ (b : Bool). cond b (within (bytes ++ (h * 16 + d) ∷ []) none bad) (past false bad))
       (le-ltb (length bytes) 9000 l)
@@ -66,24 +66,24 @@ heldBy s = heldOf (s .line) (s .frame)
 module _ (len half : ℕ) (bad : Bool) (frame : List ℕ) (room : 9000 ≤ length frame) (c : ℕ) where
   one-bad : (odd : Bool) → digit c ≡ none
       → heldBy (withValue (digit c) (state len half odd bad frame))
-      ≡ holdingOne (digit c) (heldOf (state len half odd bad frame .line) frame)
+      ≡ heldAfterOne (digit c) (heldOf (state len half odd bad frame .line) frame)
   one-bad odd e = go (decLe len 9000)
     where
       go : Dec (len ≤ 9000)
           → heldBy (withValue (digit c) (state len half odd bad frame))
-          ≡ holdingOne (digit c) (heldOf (state len half odd bad frame .line) frame)
+          ≡ heldAfterOne (digit c) (heldOf (state len half odd bad frame .line) frame)
       go (yes h) = rw (held-within len half odd bad frame h, e) (held-within len half odd true frame h)
       go (no h) =
           rw (held-past len half odd bad frame (omega arith), e) (held-past len half odd true frame (omega arith))
 
   module _ (d : ℕ) (e : digit c ≡ some d) (low : d < 16) where
     one-high : heldBy (withValue (digit c) (state len half false bad frame))
-        ≡ holdingOne (digit c) (heldOf (state len half false bad frame .line) frame)
+        ≡ heldAfterOne (digit c) (heldOf (state len half false bad frame .line) frame)
     one-high = rw (on-high len half false bad frame c d e refl) (go (decLe len 9000))
       where
         go : Dec (len ≤ 9000)
             → heldOf (state len d true bad frame .line) frame
-            ≡ holdingOne (digit c) (heldOf (state len half false bad frame .line) frame)
+            ≡ heldAfterOne (digit c) (heldOf (state len half false bad frame .line) frame)
         go (yes h) =
             let m : d % 16 ≡ d = mod-eq-of-lt low in
             held-within len d true bad frame h ∙ rw (held-within len half false bad frame h, e, m)
@@ -91,7 +91,7 @@ module _ (len half : ℕ) (bad : Bool) (frame : List ℕ) (room : 9000 ≤ lengt
             held-past len d true bad frame (omega arith) ∙ rw (held-past len half false bad frame (omega arith), e)
 
     one-low : heldBy (withValue (digit c) (state len half true bad frame))
-        ≡ holdingOne (digit c) (heldOf (state len half true bad frame .line) frame)
+        ≡ heldAfterOne (digit c) (heldOf (state len half true bad frame .line) frame)
     one-low = go (decLt len 9000) (decLe len 9000)
       where
         b : ℕ
@@ -99,7 +99,7 @@ module _ (len half : ℕ) (bad : Bool) (frame : List ℕ) (room : 9000 ≤ lengt
 
         go : Dec (len < 9000) → Dec (len ≤ 9000)
             → heldBy (withValue (digit c) (state len half true bad frame))
-            ≡ holdingOne (digit c) (heldOf (state len half true bad frame .line) frame)
+            ≡ heldAfterOne (digit c) (heldOf (state len half true bad frame .line) frame)
         go (yes h) k =
             let size : length (take len frame) ≡ len = length-take-le len frame (omega arith) in
             let front : take (len + 1) (set frame len b) ≡ take len frame ++ b ∷ [] =
@@ -126,12 +126,12 @@ module _ (len half : ℕ) (bad : Bool) (frame : List ℕ) (room : 9000 ≤ lengt
 
   pub one-held : (odd : Bool)
       → heldBy (withValue (digit c) (state len half odd bad frame))
-      ≡ holdingOne (digit c) (heldOf (state len half odd bad frame .line) frame)
+      ≡ heldAfterOne (digit c) (heldOf (state len half odd bad frame .line) frame)
   one-held odd = go odd (valued c)
     where
       go : (o : Bool) → Valued c
           → heldBy (withValue (digit c) (state len half o bad frame))
-          ≡ holdingOne (digit c) (heldOf (state len half o bad frame .line) frame)
+          ≡ heldAfterOne (digit c) (heldOf (state len half o bad frame .line) frame)
       go o (no-digit e) = one-bad o e
       go false (is-digit d e low) = one-high d e low
       go true (is-digit d e low) = one-low d e low
@@ -157,12 +157,12 @@ unfolding after
 after-size [] s = refl
 after-size (c ∷ cs) s = after-size cs (withValue (digit c) s) ∙ same-size (digit c) s
 
-pub all-held : (cs : List ℕ) (s : State) → 9000 ≤ length (s .frame) → heldBy (after s cs) ≡ holding (heldBy s) cs
-unfolding after holding
+pub all-held : (cs : List ℕ) (s : State) → 9000 ≤ length (s .frame) → heldBy (after s cs) ≡ heldAfter (heldBy s) cs
+unfolding after heldAfter
 all-held [] s room = refl
 all-held (c ∷ cs) s room =
     all-held cs (withValue (digit c) s) (rw (same-size (digit c) s) room)
-    ∙ ap (λ (h : Held). holding h cs)
+    ∙ ap (λ (h : Held). heldAfter h cs)
     (one-held (s .line .len) (s .line .half) (s .line .bad) (s .frame) room c (s .line .odd))
 
 -- ---- the answer where the line ends
@@ -224,14 +224,14 @@ room-size = length-replicate {A = ℕ} 9001 0
 abbrev ended : List ℕ → State
 ended cs = after (atStart room) cs
 
-ended-held : (cs : List ℕ) → heldBy (ended cs) ≡ holding nothingHeld cs
+ended-held : (cs : List ℕ) → heldBy (ended cs) ≡ heldAfter nothingHeld cs
 unfolding start
 ended-held cs =
     let size = room-size in
-    all-held cs (atStart room) (omega arith) ∙ ap (λ (h : Held). holding h cs) (nothing-held room)
+    all-held cs (atStart room) (omega arith) ∙ ap (λ (h : Held). heldAfter h cs) (nothing-held room)
 
 pub held-answer : (p : Pair) (memory cs : List ℕ)
-    → answerHeld p memory (holding nothingHeld cs) ≡ answerTo p memory (decode cs)
+    → answerHeld p memory (heldAfter nothingHeld cs) ≡ answerTo p memory (decode cs)
 held-answer p memory cs = rw (← ended-held cs) (go (decode cs) refl)
   where
     size : length room ≡ 9001
@@ -284,7 +284,7 @@ empty-plain (suc n) half odd bad (x ∷ frame) h = go (ltb 9000 (suc n)) ∙ sym
 pub empty-held : (line : Line) (frame : List ℕ) → 9000 ≤ length frame → isEmpty (heldOf line frame) ≡ emptyLine line
 empty-held line frame h = empty-plain (line .len) (line .half) (line .odd) (line .bad) frame h
 
-pub held-empty : (cs : List ℕ) → isEmpty (holding nothingHeld cs) ≡ eqb (length cs) 0
+pub held-empty : (cs : List ℕ) → isEmpty (heldAfter nothingHeld cs) ≡ eqb (length cs) 0
 held-empty cs =
     let size = room-size in
     rw (← ended-held cs)

@@ -15,8 +15,8 @@ use Rattle.replay_text.specs.Feeding.{
   Held,
   within,
   past,
-  holdingOne,
-  holding,
+  heldAfterOne,
+  heldAfter,
   Replaying,
   atStart,
   feed,
@@ -26,21 +26,21 @@ use Rattle.replay_text.specs.Feeding.{
 use Rattle.replay_text.specs.Claim.{HeldMost}
 use Rattle.replay_text.proofs.Holding.{byte-kept, byte-past}
 
-one-more : (o : Option ℕ) (h : Held) → HeldMost h → HeldMost (holdingOne o h)
+one-more : (o : Option ℕ) (h : Held) → HeldMost h → HeldMost (heldAfterOne o h)
 one-more none (within bytes half bad) m = m
 one-more none (past odd bad) m = tt
 one-more (some d) (within bytes none bad) m = m
 one-more (some d) (within bytes (some h) bad) m = go (decLt (length bytes) 9000)
   where
-    go : Dec (length bytes < 9000) → HeldMost (holdingOne (some d) (within bytes (some h) bad))
+    go : Dec (length bytes < 9000) → HeldMost (heldAfterOne (some d) (within bytes (some h) bad))
     go (yes l) = rw (byte-kept bytes h d bad l) (omega (arith, length-append bytes ((h * 16 + d) ∷ [])))
     go (no l) = rw (byte-past bytes h d bad (omega arith)) tt
 one-more (some d) (past odd bad) m = tt
 
-all-more : (cs : List ℕ) (h : Held) → HeldMost h → HeldMost (holding h cs)
-unfolding holding
+all-more : (cs : List ℕ) (h : Held) → HeldMost h → HeldMost (heldAfter h cs)
+unfolding heldAfter
 all-more [] h m = m
-all-more (c ∷ cs) h m = all-more cs (holdingOne (digit c) h) (one-more (digit c) h m)
+all-more (c ∷ cs) h m = all-more cs (heldAfterOne (digit c) h) (one-more (digit c) h m)
 
 module _ (s : Replaying) (m : HeldMost (s .held)) (fragment : List ℕ) where
   one-call : HeldMost (feed s fragment .state .held)

@@ -20,15 +20,15 @@ use Rattle.replay_text.specs.Text.{linesMost, withFirst, linesOf, answer
 use Rattle.replay_text.specs.Feeding.{
   Held,
   nothingHeld,
-  holdingOne,
-  holding,
+  heldAfterOne,
+  heldAfter,
   answerHeld,
   isEmpty,
   Replaying,
   withCharacters,
   lineAnswer,
   lineEnded,
-  closing,
+  nowClosed,
   hasLast,
   close,
   Run,
@@ -72,10 +72,10 @@ line-last x (y ∷ a) h =
     rw (f .0) (ap (withFirst x) (line-last y a (f .1)))
 
 -- a line in two parts
-pub holding-append : (h : Held) (a b : List ℕ) → holding h (a ++ b) ≡ holding (holding h a) b
-unfolding holding
+pub holding-append : (h : Held) (a b : List ℕ) → heldAfter h (a ++ b) ≡ heldAfter (heldAfter h a) b
+unfolding heldAfter
 holding-append h [] b = refl
-holding-append h (c ∷ a) b = holding-append (holdingOne (digit c) h) a b
+holding-append h (c ∷ a) b = holding-append (heldAfterOne (digit c) h) a b
 
 -- ---- totals, answer after answer
 
@@ -87,7 +87,7 @@ totalling t (a ∷ rest) = totalling (totalled t a) rest
 
 -- a are the characters of the line being read
 pub record Reading (s : Replaying) (a : List ℕ) : Type 0 where
-  pub held-is : s .held ≡ holding nothingHeld a
+  pub held-is : s .held ≡ heldAfter nothingHeld a
   pub one-line : hasNewline a ≡ false
   pub is-open : s .closed ≡ false
 
@@ -105,7 +105,7 @@ left s a text = take (linesMost - s .lines) (linesOf (a ++ text))
 closed-none : (s : Replaying) → s .closed ≡ false → hasLast s ≡ false → Answers s [] (closed s)
 unfolding closed close answersTo totalling
 closed-none s o h =
-    let e : close s ≡ record { state = closing s; reply = Nothing; totals = s .totals } = rw (h, o) in
+    let e : close s ≡ record { state = nowClosed s; reply = Nothing; totals = s .totals } = rw (h, o) in
     rw e (record { answers-are = refl; pair-is = refl; memory-is = refl; totals-are = refl; is-closed = refl })
 
 -- a line answered, and those behind it
@@ -142,10 +142,10 @@ closed-line : (s : Replaying) (a : List ℕ) → Reading s a → hasLast s ≡ t
 unfolding closed close answersTo totalling
 closed-line s a w h =
     let e : close s
-    ≡ record { state = closing (lineEnded s); reply = Answered (lineAnswer s); totals = lineEnded s .totals } =
+    ≡ record { state = nowClosed (lineEnded s); reply = Answered (lineAnswer s); totals = lineEnded s .totals } =
     rw (h, w .is-open) in
     rw e
-    (line-then s a [] (record { answers = []; state = closing (lineEnded s) }) w
+    (line-then s a [] (record { answers = []; state = nowClosed (lineEnded s) }) w
     (record { answers-are = refl; pair-is = refl; memory-is = refl; totals-are = refl; is-closed = refl }))
 
 -- after 1,000,000 lines none is answered
@@ -176,7 +176,7 @@ at-end s (x ∷ a) w l =
     (closed-line s (x ∷ a) w (rw (lt-leb linesMost (s .lines) l, e)))
 
 pub all-answered : (text : List ℕ) (s : Replaying) (a : List ℕ) → Reading s a → Answers s (left s a text) (goOn s text)
-unfolding goOn holding hasNewline
+unfolding goOn heldAfter hasNewline
 all-answered [] s a w = go (decLe linesMost (s .lines))
   where
     go : Dec (linesMost ≤ s .lines) → Answers s (left s a []) (goOn s [])

@@ -1,4 +1,4 @@
--- The replay from fragments: what it holds between two of them, feeding one, and closing.
+-- The replay from fragments: what it holds between two of them, feeding one, and nowClosed.
 use Prim.Native.Nat.{ℕ, zero, suc, _+_, _*_}
 use mathlib.Core.Path.{_≡_}
 use mathlib.Core.Bool.{Bool, true, false, cond, not}
@@ -29,17 +29,17 @@ abbrev pub nothingHeld : Held
 nothingHeld = within [] none false
 
 -- A character more, by its value as a digit; `odd` is the digit parity.
-abbrev pub holdingOne : Option ℕ → Held → Held
-holdingOne none (within bytes half bad) = within bytes half true
-holdingOne none (past odd bad) = past odd true
-holdingOne (some d) (within bytes none bad) = within bytes (some d) bad
-holdingOne (some d) (within bytes (some h) bad) =
+abbrev pub heldAfterOne : Option ℕ → Held → Held
+heldAfterOne none (within bytes half bad) = within bytes half true
+heldAfterOne none (past odd bad) = past odd true
+heldAfterOne (some d) (within bytes none bad) = within bytes (some d) bad
+heldAfterOne (some d) (within bytes (some h) bad) =
     cond (ltb (length bytes) 9000) (within (bytes ++ (h * 16 + d) ∷ []) none bad) (past false bad)
-holdingOne (some d) (past odd bad) = past (not odd) bad
+heldAfterOne (some d) (past odd bad) = past (not odd) bad
 
-unfoldable pub holding : Held → List ℕ → Held
-holding h [] = h
-holding h (c ∷ cs) = holding (holdingOne (digit c) h) cs
+unfoldable pub heldAfter : Held → List ℕ → Held
+heldAfter h [] = h
+heldAfter h (c ∷ cs) = heldAfter (heldAfterOne (digit c) h) cs
 
 -- What a line is answered where it ends: 14 for a bad character or a half byte, 2 past 9,000 bytes, and else what the
 -- host says.
@@ -83,7 +83,7 @@ abbrev pub withCharacters : List ℕ → Replaying → Replaying
 withCharacters cs s = record {
   pair = s .pair;
   memory = s .memory;
-  held = holding (s .held) cs;
+  held = heldAfter (s .held) cs;
   totals = s .totals;
   lines = s .lines;
   closed = s .closed;
@@ -103,8 +103,8 @@ lineEnded s = record {
   closed = s .closed;
 }
 
-abbrev pub closing : Replaying → Replaying
-closing s = record {
+abbrev pub nowClosed : Replaying → Replaying
+nowClosed s = record {
   pair = s .pair;
   memory = s .memory;
   held = s .held;
@@ -134,7 +134,7 @@ feed s fragment =
     })
     (record { state = withCharacters fragment s; reply = Nothing; taken = length fragment })))
 
--- Closing answers a last line, if there is one, and the totals. A second closing gets refusal 17.
+-- Closing answers a last line, if there is one, and the totals. A second nowClosed gets refusal 17.
 pub record ClosedStep : Type 0 where
   pub state : Replaying
   pub reply : Reply
@@ -147,8 +147,8 @@ unfoldable pub close : Replaying → ClosedStep
 close s =
     cond (s .closed) (record { state = s; reply = Refused 17; totals = noTotals })
     (cond (hasLast s)
-    (record { state = closing (lineEnded s); reply = Answered (lineAnswer s); totals = lineEnded s .totals })
-    (record { state = closing s; reply = Nothing; totals = s .totals }))
+    (record { state = nowClosed (lineEnded s); reply = Answered (lineAnswer s); totals = lineEnded s .totals })
+    (record { state = nowClosed s; reply = Nothing; totals = s .totals }))
 
 -- A call that is refused with 17 leaves what it was lent as it was, word for word and byte for byte.
 abbrev pub LeftIfClosed : {A : Type 0} → Reply → A → A → Type 0

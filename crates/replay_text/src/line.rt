@@ -8,9 +8,6 @@ ghost use mathlib.Core.List.{[], _∷_};
 ghost use Rattle.replay_text.specs.AnswerLine.{lineEnd, withLine};
 ghost use Rattle.replay_text.specs.Report.{lineRefusal, letterOf, numbersOf, totalled};
 
-// Bytes that a frame can have. A line that spells more is refused whatever they are, so that no more have to be held.
-pub const FRAME_MOST: usize = 9000;
-
 // Sums over accepted frames.
 pub struct Totals {
     pub messages: u64,
@@ -18,7 +15,7 @@ pub struct Totals {
     pub completed: u64,
 }
 
-// The refusal of a line that has ended: 14 where it spells no bytes, then 2 where it spells more than FRAME_MOST; 0 for
+// The refusal of a line that has ended: 14 where it spells no bytes, then 2 where it spells more than a frame can have; 0 for
 // none, and then a host is to be asked.
 pub fn line_refusal(line: Line) -> u8
     ensures { λ r. ⌜ r ≡ lineRefusal line ⌝ }
@@ -26,7 +23,7 @@ pub fn line_refusal(line: Line) -> u8
     if line.is_refused() {
         return refusal::BAD_LINE;
     }
-    if FRAME_MOST < line.len {
+    if wire::FRAME_MOST < line.len {
         return refusal::FRAME_TOO_LONG;
     }
     0

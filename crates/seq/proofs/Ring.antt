@@ -1,5 +1,5 @@
--- The laws of numbers that come round, in a space of any size w: what the numbers of two counts say about the counts.
--- A count is how many there were so far and never comes round; its number is the count modulo w.
+-- The laws of numbers that wrap, in a space of any size w: what the numbers of two counts say about the counts.
+-- A count is how many there were so far and never wraps; its number is the count modulo w.
 -- Assumes nothing.
 use Prim.Native.Nat.{ℕ, zero, suc, _+_, _-_, _*_, _/_, _%_, _≤_, _<_}
 use native.Mathlib.Nat.{mod-add-mod, add-mod-mod, add-mod-right, mod-eq-of-lt, mod-lt}
@@ -12,7 +12,7 @@ use borrow.Author.Tests.{eqb-true, eqb-false, lt-ltb, le-ltb, le-leb, lt-leb, lt
 use lib.Dec.{eqb, leb, ltb}
 use Rattle.seq.specs.Ring.{frameSpace, distance, advance, inRange, latest}
 
--- Where numbers come round, by computation: nine frame numbers from 65530 on end with the number 2.
+-- Where numbers wrap, by computation: nine frame numbers from 65530 on end with the number 2.
 pub edges : (distance frameSpace 65530 3 ≡ 9) × (distance frameSpace 3 65530 ≡ 65527) × (distance frameSpace 3 3 ≡ 0)
     × (advance frameSpace 65530 9 ≡ 3) × (inRange frameSpace 65530 9 2 ≡ true) × (inRange frameSpace 65530 9 3 ≡ false)
     × (latest 8 21 4 ≡ 20) × (latest 8 20 4 ≡ 12) × (latest 8 3 4 ≡ 0)
@@ -136,7 +136,7 @@ module _ (w : ℕ) (pos : 0 < w) where
   range-in start count n l h e = (ltb-true _ _ e, sym (advance-distance start n l h))
 
   -- The i-th number from `base` on is in a range that starts d past `base`: it lies in the run of `count` from d on, or
-  -- in what of that run comes round to `base`.
+  -- in what of that run wraps to `base`.
   pub range-from : (base start count i : ℕ) → base < w → start < w → count ≤ w → i < w
       → inRange w start count (advance w base i)
       ≡ ((leb (distance w base start) i && ltb i (distance w base start + count))

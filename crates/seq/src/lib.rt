@@ -1,4 +1,4 @@
-// Frame numbers and transaction numbers: two kinds, so that one can't be passed for the other, each coming round in its
+// Frame numbers and transaction numbers: two kinds, so that one can't be passed for the other, each wrapping in its
 // own number space. Assumes nothing. It promises distance and advance as specs/Ring.antt defines them for any number
 // space.
 ghost use mathlib.Core.Path.{_≡_};

@@ -27,8 +27,8 @@ carrying h bytes = record {
   bytes = bytes;
 }
 
-unfoldable pub headOf : Message → MessageHeader
-headOf m = record {
+unfoldable pub messageHeader : Message → MessageHeader
+messageHeader m = record {
   trans = record { 0 = m .trans };
   «completion_address» = m .completionAddress;
   «completion_value» = m .completionValue;

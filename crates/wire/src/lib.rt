@@ -4,7 +4,7 @@
 use seq::FrameNo;
 use seq::TransNo;
 ghost use mathlib.Core.Path.{_≡_};
-ghost use Rattle.wire.specs.Format.{headerAfter};
+ghost use Rattle.wire.specs.Format.{needed, headerAfter};
 
 // Frames longer than this are refused.
 pub const FRAME_MOST: usize = 9000;
@@ -56,4 +56,14 @@ pub struct MessageHeader {
     pub completion_value: u32,
     pub count: u16,
     pub data_address: u32,
+}
+
+// The messages that a transaction takes: one bare one for count 0.
+pub fn messages_needed(count: u16) -> u16
+    ensures { λ r. ⌜ r ≡ needed count ⌝ }
+{
+    if count == 0 {
+        return 1;
+    }
+    count
 }

@@ -7,7 +7,7 @@ use lib.ListN.{length}
 use Rattle.octets.specs.Octets.{field}
 use Rattle.wire.specs.declared.FrameHeader.{FrameHeader}
 use Rattle.wire.specs.declared.MessageHeader.{MessageHeader}
-use Rattle.wire.specs.Format.{headOf, nextHeader}
+use Rattle.wire.specs.Format.{messageHeader, nextHeader}
 use Rattle.wire.specs.Reading.{
   destination,
   source,
@@ -35,7 +35,7 @@ headerOf f = record {
 
 -- The header of the message at an offset.
 unfoldable pub headAt : List ℕ → ℕ → MessageHeader
-headAt f at = headOf (messageAt f at)
+headAt f at = messageHeader (messageAt f at)
 
 -- That message: its header, the length of its data, whether another follows and where that one's header would stand; or
 -- that it passes the frame's end.

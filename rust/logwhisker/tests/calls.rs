@@ -82,7 +82,7 @@ fn list(seed: u64) -> Vec<u8> {
     of_list(&run.setting, &run.calls, 5).into_bytes()
 }
 
-/// One in which a transaction stays in the window while all frame numbers come round.
+/// One in which a transaction stays in the window while all frame numbers wrap.
 fn round() -> Vec<u8> {
     let (setting, calls) = come_round();
     of_list(&setting, &calls, 1_000).into_bytes()

@@ -160,8 +160,8 @@ fn calls_of_every_kind() {
     }
 }
 
-/// All frame numbers come round, with a transaction that stays open all the while and
-/// others that finish, whose last frames' numbers come round too.
+/// All frame numbers wrap, with a transaction that stays open all the while and
+/// others that finish, whose last frames' numbers wrap too.
 #[test]
 fn frame_numbers_that_come_round() {
     let seed = seed();

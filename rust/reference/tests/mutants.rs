@@ -19,7 +19,7 @@ enum Lists {
     Fresh,
     /// Short ones of ends near the end of their numbers.
     NearTheEnd,
-    /// One of fresh ends that goes on until the numbers come round.
+    /// One of fresh ends that goes on until the numbers wrap.
     Long,
     /// The one below, in which a card's window is full.
     FullWindow,
@@ -204,7 +204,7 @@ static SCRIPTS: LazyLock<Vec<Answered>> = LazyLock::new(|| {
     wild.chain(lists).collect()
 });
 
-/// The script in which frame numbers come round.
+/// The script in which frame numbers wrap.
 static ROUND: LazyLock<Vec<Answered>> = LazyLock::new(|| {
     let (setting, calls) = come_round();
     vec![answered(&of_list(&setting, &calls, 1_000))]

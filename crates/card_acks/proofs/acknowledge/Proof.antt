@@ -11,7 +11,7 @@ use Rattle.card_acks.proofs.acknowledge.Lts as lts
 use Rattle.card_acks.proofs.cover.acknowledged_marks.Reads as acknowledged-marks-reads
 use Rattle.card_acks.proofs.finish.finished_marks.Reads as finished-marks-reads
 use Rattle.card_words.proofs.head_of.Reads as head-of-reads
-use Rattle.card_words.proofs.store.put_head.Reads as put-head-reads
+use Rattle.card_words.proofs.update.put_head.Reads as put-head-reads
 use Rattle.bitmap.proofs.word32.trailing_ones.Reads as word32-trailing-ones-reads
 use Rattle.bitmap.proofs.word32.shifted.Reads as word32-shifted-reads
 use Rattle.bitmap.proofs.word64.trailing_ones.Reads as word64-trailing-ones-reads

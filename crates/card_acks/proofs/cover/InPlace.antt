@@ -20,7 +20,7 @@ use Rattle.bitmap.proofs.Masks.{mark-or, mark-and, marks-are, mark-below, mark-
 use Rattle.card.specs.declared.SendWindow.{SendWindow}
 use Rattle.card.specs.Window.{unreleased, acknowledgedBy}
 use Rattle.card_words.specs.declared.Head.{Head}
-use Rattle.card_words.specs.Words.{cardOf, headOf}
+use Rattle.card_words.specs.Words.{cardOf, headPart}
 use Rattle.card_acks.specs.Covering.{coveredBy}
 
 -- ---- the range of an acknowledgement as runs of bits
@@ -78,7 +78,7 @@ acknowledged-are w start count covered sealed c s =
 
 -- ---- what the head tells
 
-module _ (w : List ℕ) (h : Head) (head-is : h ≡ headOf (cardOf w)) where
+module _ (w : List ℕ) (h : Head) (head-is : h ≡ headPart (cardOf w)) where
   pub acknowledged-by : (start count d covered sealed : ℕ) → d ≡ distance frameSpace (h .base .0) (h .next .0)
       → covered ≡ marksOf 64 (coveredBy (h .base .0) start count) → sealed ≡ marksBelow 64 d
       → bitAnd (bitOr (h .acked) covered) sealed ≡ marksOf 64 (acknowledgedBy (cardOf w .window) start count)

@@ -20,10 +20,10 @@ use Rattle.card.specs.declared.Sendings.{Sendings}
 use Rattle.card.specs.Sendings.{noSending, opened, sendingAt, finishedBy}
 use Rattle.card.proofs.Finishing.{none-released}
 use Rattle.card_words.specs.declared.Head.{Head}
-use Rattle.card_words.specs.Words.{cardOf, headOf}
+use Rattle.card_words.specs.Words.{cardOf, headPart}
 use Rattle.card_acks.specs.Finishing.{finishedNow, finishedBefore}
 
--- entries go on with the numbers where those come round
+-- entries go on with the numbers where those wrap
 pub entry-is : (s : Sendings) (lowest i : ℕ) → sendingAt s (advance transSpace lowest i) ≡ sendingAt s (lowest + i)
 unfolding advance
 entry-is s lowest i =
@@ -88,7 +88,7 @@ none-now s from base none =
     ))
 
 -- what the head tells
-module _ (w : List ℕ) (h : Head) (head-is : h ≡ headOf (cardOf w)) where
+module _ (w : List ℕ) (h : Head) (head-is : h ≡ headPart (cardOf w)) where
   pub finished-before : (n mask : ℕ) → n ≡ distance transSpace (h .lowest .0) (h .upcoming .0)
       → mask ≡ marksBelow 32 n → bitAnd (h .finished) mask ≡ marksOf 32 (finishedBefore (cardOf w .sendings))
   finished-before n mask n-is is =

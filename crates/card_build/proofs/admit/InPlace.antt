@@ -13,10 +13,10 @@ use Rattle.card.specs.Window.{unreleased}
 use Rattle.card.specs.Sendings.{opened, sendingAt, takes}
 use Rattle.card.specs.Card.{headerOffset}
 use Rattle.card_words.specs.declared.Head.{Head}
-use Rattle.card_words.specs.Words.{cardOf, headOf}
+use Rattle.card_words.specs.Words.{cardOf, headPart}
 use Rattle.card_words.proofs.Heads.{unreleased-read}
 
-module _ (w : List ℕ) (h : Head) (head-is : h ≡ headOf (cardOf w)) where
+module _ (w : List ℕ) (h : Head) (head-is : h ≡ headPart (cardOf w)) where
   -- ---- the transaction
 
   module _ (d : ℕ) (is : d ≡ distance transSpace (h .lowest .0) (h .upcoming .0)) where

@@ -11,8 +11,8 @@ use Rattle.card_build.proofs.count_message.Reads as reads
 use Rattle.card_build.proofs.count_message.Lts as lts
 use Rattle.card_build.proofs.admit.header_offset.Reads as header-offset-reads
 use Rattle.card_words.proofs.head_of.Reads as head-of-reads
-use Rattle.card_words.proofs.store.put_head.Reads as put-head-reads
-use Rattle.card_words.proofs.store.put_sending.Reads as put-sending-reads
+use Rattle.card_words.proofs.update.put_head.Reads as put-head-reads
+use Rattle.card_words.proofs.update.put_sending.Reads as put-sending-reads
 use Rattle.card_words.proofs.sending_at.Reads as sending-at-reads
 
 head-of-requires : tie.Need-head-of-requires

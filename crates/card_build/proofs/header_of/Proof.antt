@@ -1,6 +1,6 @@
 -- `header_of`: the terms of the transaction.
 -- Assumes nothing.
-use Rattle.wire.specs.Format.{headOf}
+use Rattle.wire.specs.Format.{messageHeader}
 use Rattle.card.specs.Card.{messageOf}
 use borrow.Author.Needs.{needs}
 use Rattle.card_build.proofs.header_of.Statement.{statement}
@@ -13,7 +13,7 @@ sending-at-requires : tie.Need-sending-at-requires
 sending-at-requires c κs = search needs
 
 returns : tie.Need-returns
-unfolding headOf messageOf
+unfolding messageHeader messageOf
 returns c = rw (c .sending-at .ensures)
 
 pub header-of-spec : {M : Type 1} → statement M

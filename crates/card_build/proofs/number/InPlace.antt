@@ -16,14 +16,14 @@ use Rattle.card.specs.Window.{sealing}
 use Rattle.card.specs.Sendings.{opened, openingRefusal, opening}
 use Rattle.card.specs.Card.{openTransaction, sealRefusal, sealFrame}
 use Rattle.card_words.specs.declared.Head.{Head}
-use Rattle.card_words.specs.Words.{cardOf, headOf, withHead, withSize, withSending}
+use Rattle.card_words.specs.Words.{cardOf, headPart, withHead, withSize, withSending}
 
 pub sealing-refused : (c : Card) (slots : List ℕ) (r : ℕ) → r ≡ sealRefusal c slots → r ≢ 0
     → sealFrame c slots ≡ record { card = c; refusal = r; number = record { 0 = 0 } }
 unfolding sealFrame
 sealing-refused c slots r is ne = rw (← is, ne-eqb r 0 ne)
 
-module _ (w : List ℕ) (h : Head) (head-is : h ≡ headOf (cardOf w)) where
+module _ (w : List ℕ) (h : Head) (head-is : h ≡ headPart (cardOf w)) where
   -- ---- transactions
 
   module _ (d : ℕ) (is : d ≡ distance transSpace (h .lowest .0) (h .upcoming .0)) where

@@ -15,7 +15,7 @@ use Rattle.bitmap.specs.Marks.{trailingOnes}
 use Rattle.card.specs.Window.{beforeHeld, anyHeld, oldestHeld}
 use Rattle.card.specs.Card.{frameIn, isAck, chooseRefusal, chooseNext}
 use Rattle.card_words.specs.declared.Head.{Head}
-use Rattle.card_words.specs.Words.{cardWords, cardOf, headOf, orNotCard}
+use Rattle.card_words.specs.Words.{cardWords, cardOf, headPart, orOtherLength}
 use Rattle.card_words.proofs.Heads.{unreleased-read}
 use Rattle.card_send.specs.Parts.{partOf}
 use Rattle.card_send.proofs.show.Parts.{frame-is}
@@ -23,7 +23,7 @@ use Rattle.card_send.specs.Choices.{chosenPart, chosenIn}
 
 -- ---- held frames, by the head
 
-module _ (w : List ℕ) (h : Head) (head-is : h ≡ headOf (cardOf w)) where
+module _ (w : List ℕ) (h : Head) (head-is : h ≡ headPart (cardOf w)) where
   module _ (u : ℕ) (u-is : u ≡ distance frameSpace (h .base .0) (h .next .0)) where
     pub before-is : (r : ℕ) → r ≡ trailingOnes u (h .acked) → r ≡ beforeHeld (cardOf w .window)
     unfolding beforeHeld
@@ -38,7 +38,7 @@ module _ (w : List ℕ) (h : Head) (head-is : h ≡ headOf (cardOf w)) where
 
 -- ---- the choice
 
-module _ (w slots ack : List ℕ) (r : ℕ) (is : r ≡ orNotCard w (chooseRefusal (cardOf w) slots ack)) where
+module _ (w slots ack : List ℕ) (r : ℕ) (is : r ≡ orOtherLength w (chooseRefusal (cardOf w) slots ack)) where
   pub chosen-none : r ≢ 0 → [] ≡ chosenIn w slots ack
   unfolding chosenIn chooseNext
   chosen-none ne = go (eqb (length w) cardWords) refl

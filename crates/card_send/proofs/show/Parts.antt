@@ -16,14 +16,14 @@ use Rattle.card.specs.declared.Card.{Card}
 use Rattle.card.specs.Window.{sizeOf, held}
 use Rattle.card.specs.Card.{slotStart, frameIn, showRefusal, showFrame}
 use Rattle.card_words.specs.declared.Head.{Head}
-use Rattle.card_words.specs.Words.{cardWords, cardOf, headOf, orNotCard}
+use Rattle.card_words.specs.Words.{cardWords, cardOf, headPart, orOtherLength}
 use Rattle.card_words.proofs.Heads.{unreleased-read}
 use Rattle.card_send.specs.declared.show.Part.{Part}
 use Rattle.card_send.specs.Parts.{partOf, noPart, framePart, shownPart, shownIn}
 
 -- ---- held frames, by the head
 
-module _ (w : List ℕ) (h : Head) (head-is : h ≡ headOf (cardOf w)) where
+module _ (w : List ℕ) (h : Head) (head-is : h ≡ headPart (cardOf w)) where
   module _ (u : ℕ) (u-is : u ≡ distance frameSpace (h .base .0) (h .next .0)) where
     module _ (n d : ℕ) (d-is : d ≡ distance frameSpace (h .base .0) n) where
       away : d ≡ distance frameSpace (cardOf w .window .base .0) n
@@ -80,7 +80,7 @@ lies-inside c slots n p e = rw e (frame-is c slots n)
 
 -- ---- showing
 
-module _ (w slots : List ℕ) (n r : ℕ) (is : r ≡ orNotCard w (showRefusal (cardOf w) slots n)) where
+module _ (w slots : List ℕ) (n r : ℕ) (is : r ≡ orOtherLength w (showRefusal (cardOf w) slots n)) where
   pub shown-none : r ≢ 0 → [] ≡ shownIn w slots n
   unfolding shownIn showFrame
   shown-none ne = go (eqb (length w) cardWords) refl

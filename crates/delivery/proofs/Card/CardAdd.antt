@@ -17,7 +17,7 @@ use Rattle.seq.proofs.Ring.{latest-is, same-count}
 use Rattle.wire.specs.Format.{Message, needed}
 use Rattle.card.specs.Window.{unreleased}
 use Rattle.card.specs.declared.Sending.{Sending}
-use Rattle.card.specs.Sendings.{noSending, opened, sendingAt, oneMore, adding}
+use Rattle.card.specs.Sendings.{noSending, opened, sendingAt, oneAdded, adding}
 use Rattle.card.proofs.Adding.{takes-opened, takes-lacks}
 use Rattle.card.proofs.Finishing.{taking-is}
 use Rattle.card.specs.declared.Card.{Card}
@@ -172,7 +172,7 @@ module _ (c : Card) (slots : List ℕ) (b : Book) (r : CardFor c slots b) (s : S
 
   -- ---- the card's transactions
 
-  sendings-are : added-card .sendings .table ≡ set (c .sendings .table) (t % 32) (oneMore told (c .window .next .0))
+  sendings-are : added-card .sendings .table ≡ set (c .sendings .table) (t % 32) (oneAdded told (c .window .next .0))
   unfolding withMessage adding
   sendings-are = rw (may .takes-more)
 
@@ -186,10 +186,10 @@ module _ (c : Card) (slots : List ℕ) (b : Book) (r : CardFor c slots b) (s : S
         lastIs = λ p. last-now;
       })
     where
-      here : sendingAt (added-card .sendings) i ≡ oneMore told (c .window .next .0)
+      here : sendingAt (added-card .sendings) i ≡ oneAdded told (c .window .next .0)
       here =
           ap (λ (l : List Sending). getD l (i % 32) noSending) sendings-are
-          ∙ read-set (c .sendings .table) (t % 32) (i % 32) (oneMore told (c .window .next .0)) noSending entry-is
+          ∙ read-set (c .sendings .table) (t % 32) (i % 32) (oneAdded told (c .window .next .0)) noSending entry-is
           (rw (r .termsLong) (mod-lt i (lit< tt)))
 
       not-yet : (j : ℕ) → j ≤ length (b .frames) → inFirst (withAdded b e) i j < inAll (withAdded b e) i
@@ -226,7 +226,7 @@ module _ (c : Card) (slots : List ℕ) (b : Book) (r : CardFor c slots b) (s : S
       here =
           ap (λ (l : List Sending). getD l (k % 32) noSending) sendings-are
           ∙ read-other (c .sendings .table) (t % 32) (i % 32) (k % 32)
-          (oneMore told (c .window .next .0)) noSending entry-is
+          (oneAdded told (c .window .next .0)) noSending entry-is
           (slots-differ (lowUnfinished b) k i l (omega (arith, s .transFit)) (omega arith)
           (omega (arith, s .transFit, i-open)) n)
 
@@ -284,7 +284,7 @@ module _ (c : Card) (slots : List ℕ) (b : Book) (r : CardFor c slots b) (s : S
         finishedAre = rw (may .takes-more) (r .finishedAre);
         termsLong =
             ap length sendings-are
-            ∙ length-set (c .sendings .table) (t % 32) (oneMore told (c .window .next .0)) ∙ r .termsLong;
+            ∙ length-set (c .sendings .table) (t % 32) (oneAdded told (c .window .next .0)) ∙ r .termsLong;
         termsAre = λ k l h. go k l h (ℕ-discrete i k);
       }
     where

@@ -12,10 +12,10 @@ use Rattle.seq.specs.Ring.{frameSpace}
 use Rattle.bitmap.proofs.Marks.{leading-mono}
 use Rattle.octets.specs.Octets.{little}
 use Rattle.octets.proofs.Octets.{length-little, written-inside}
-use Rattle.wire.specs.Format.{headOf}
+use Rattle.wire.specs.Format.{messageHeader}
 use Rattle.host.specs.declared.Open.{Open}
 use Rattle.host.specs.declared.Verdict.{Verdict}
-use Rattle.host.specs.Transactions.{closing, holding, Transactions, verdict, after}
+use Rattle.host.specs.Transactions.{closedVerdict, openVerdict, Transactions, verdict, after}
 use Rattle.host.specs.Host.{Tally, effect, takeIn, fine, takeAll}
 use Rattle.delivery.specs.Book.{
   MessageRecord,
@@ -142,8 +142,8 @@ module _ (ds : List Transaction) (pre : List MessageRecord) (e : MessageRecord) 
 
   v-is : v
       ≡ cond (fullAt ds (pre ++ (e ∷ post)) (e .trans))
-      (closing (l .lowest) (l .closed) (gap l ds (pre ++ post) r e fit isKnown notFull))
-      (holding (l .lowest) (l .closed) was (headOf (wired ds e)))
+      (closedVerdict (l .lowest) (l .closed) (gap l ds (pre ++ post) r e fit isKnown notFull))
+      (openVerdict (l .lowest) (l .closed) was (messageHeader (wired ds e)))
   v-is =
       verdict-is l ds (pre ++ post) r e fit isKnown notFull (length (t .memory)) (inside .bare) (inside .dataIn)
       (inside .completionIn)
@@ -157,12 +157,12 @@ module _ (ds : List Transaction) (pre : List MessageRecord) (e : MessageRecord) 
   with-verdict x done f q = rw (q, f, effect-is ds e (t .memory) done inside)
 
   pub taken-in : MessageTaken
-  unfolding closing holding
+  unfolding closedVerdict openVerdict
   taken-in = go (fullAt ds (pre ++ (e ∷ post)) (e .trans)) refl
     where
       go : (b : Bool) → fullAt ds (pre ++ (e ∷ post)) (e .trans) ≡ b → MessageTaken
       go true f =
-          let x = closing (l .lowest) (l .closed) (gap l ds (pre ++ post) r e fit isKnown notFull) in
+          let x = closedVerdict (l .lowest) (l .closed) (gap l ds (pre ++ post) r e fit isKnown notFull) in
           let is : v ≡ x = v-is ∙ rw f in
           record {
             next = after l (wired ds e) x;
@@ -172,7 +172,7 @@ module _ (ds : List Transaction) (pre : List MessageRecord) (e : MessageRecord) 
             takenIn = ap (takeIn t (wired ds e)) is ∙ with-verdict x true f refl;
           }
       go false f =
-          let x = holding (l .lowest) (l .closed) was (headOf (wired ds e)) in
+          let x = openVerdict (l .lowest) (l .closed) was (messageHeader (wired ds e)) in
           let is : v ≡ x = v-is ∙ rw f in
           record {
             next = after l (wired ds e) x;

@@ -26,10 +26,10 @@ use Rattle.bitmap.proofs.Marks.{
   window-moves,
   window-marks,
 }
-use Rattle.wire.specs.Format.{Message, headOf, needed}
+use Rattle.wire.specs.Format.{Message, messageHeader, needed}
 use Rattle.host.specs.declared.Open.{Open}
 use Rattle.host.specs.Terms.{free, agrees, termsRefusal, addressRefusal}
-use Rattle.host.specs.Transactions.{fills, oneMore, closing, holding, verdictOf, Transactions, verdict, after}
+use Rattle.host.specs.Transactions.{fills, oneReceived, closedVerdict, openVerdict, verdictOf, Transactions, verdict, after}
 use Rattle.delivery.specs.Book.{MessageRecord, Transaction, noTransaction, allMessagesIn}
 use Rattle.delivery.proofs.Book.Counts.{count, not-full-none}
 
@@ -114,12 +114,12 @@ module _ (l : Transactions) (ds : List Transaction) (es : List MessageRecord) (r
       go true q = sym (eqb-true (count (e .trans) es) 0 q)
       go false q = refl
 
-  agrees-so : agrees inTable (headOf (wired ds e)) ≡ true
-  unfolding agrees entry headOf
+  agrees-so : agrees inTable (messageHeader (wired ds e)) ≡ true
+  unfolding agrees entry messageHeader
   agrees-so = rw (held, notFull) (go (eqb (count (e .trans) es) 0) refl)
     where
       go : (b : Bool) → eqb (count (e .trans) es) 0 ≡ b
-          → agrees (cond b free (underway d (count (e .trans) es))) (headOf (wired ds e)) ≡ true
+          → agrees (cond b free (underway d (count (e .trans) es))) (messageHeader (wired ds e)) ≡ true
       go true q = refl
       go false q =
           rw (
@@ -132,16 +132,16 @@ module _ (l : Transactions) (ds : List Transaction) (es : List MessageRecord) (r
 
   module _ (size : ℕ) (bare : d .count ≡ 0 → e .bytes ≡ []) (dataIn : e .dataAddress + length (e .bytes) ≤ size)
       (completionIn : d .completionAddress + 4 ≤ size) where
-    terms-fine : termsRefusal gap (l .closed) inTable (headOf (wired ds e)) (length (e .bytes)) ≡ 0
-    unfolding termsRefusal headOf
+    terms-fine : termsRefusal gap (l .closed) inTable (messageHeader (wired ds e)) (length (e .bytes)) ≡ 0
+    unfolding termsRefusal messageHeader
     terms-fine = rw (lt-leb 32 gap near, isClear, agrees-so, go (eqb (d .count) 0) refl)
       where
         go : (x : Bool) → eqb (d .count) 0 ≡ x → (eqb (d .count) 0 && ltb 0 (length (e .bytes))) ≡ false
         go true q = rw (q, bare (eqb-true (d .count) 0 q))
         go false q = rw q
 
-    addresses-fine : addressRefusal size (headOf (wired ds e)) (length (e .bytes)) ≡ 0
-    unfolding addressRefusal headOf
+    addresses-fine : addressRefusal size (messageHeader (wired ds e)) (length (e .bytes)) ≡ 0
+    unfolding addressRefusal messageHeader
     addresses-fine =
         rw (
           le-ltb size (e .dataAddress + length (e .bytes)) dataIn,
@@ -150,9 +150,9 @@ module _ (l : Transactions) (ds : List Transaction) (es : List MessageRecord) (r
 
     -- the message is not refused: it closes its transaction, or the transaction is held with one message more
     pub verdict-is : verdict l size (wired ds e)
-        ≡ cond (fills inTable (headOf (wired ds e))) (closing (l .lowest) (l .closed) gap)
-        (holding (l .lowest) (l .closed) inTable (headOf (wired ds e)))
-    unfolding verdict verdictOf headOf
+        ≡ cond (fills inTable (messageHeader (wired ds e))) (closedVerdict (l .lowest) (l .closed) gap)
+        (openVerdict (l .lowest) (l .closed) inTable (messageHeader (wired ds e)))
+    unfolding verdict verdictOf messageHeader
     verdict-is = rw (terms-fine, addresses-fine)
 
 -- ---- entries
@@ -222,8 +222,8 @@ module _ (l : Transactions) (ds : List Transaction) (es es′ : List MessageReco
   unfolding entry
   entry-others i n = rw (full-others i n, others i n)
 
-  pub fills-is : fills was (headOf (wired ds e)) ≡ fullAt ds es′ (e .trans)
-  unfolding fills allMessagesIn headOf
+  pub fills-is : fills was (messageHeader (wired ds e)) ≡ fullAt ds es′ (e .trans)
+  unfolding fills allMessagesIn messageHeader
   fills-is = rw (received-is l ds es r e fit isKnown notFull, one) (just-full _ (count (e .trans) es) notFull)
 
   -- not yet complete: the same windows, one more received, which its 16 bits hold
@@ -263,9 +263,9 @@ module _ (l : Transactions) (ds : List Transaction) (es es′ : List MessageReco
         (slots-differ (low ds es) i (e .trans) a b bound (omega arith) n)
         ∙ r .entriesAre i a b ∙ sym (entry-others i n)
 
-    -- fewer were received than the count's field holds, so that the number received does not come round
-    left-is : oneMore was (headOf (wired ds e)) ≡ new
-    unfolding headOf new allMessagesIn
+    -- fewer were received than the count's field holds, so that the number received does not wrap
+    left-is : oneReceived was (messageHeader (wired ds e)) ≡ new
+    unfolding messageHeader new allMessagesIn
     left-is =
         let d = getD ds (e .trans) noTransaction in
         let less = leb-false (needed (d .count)) (count (e .trans) es′) still in
@@ -273,8 +273,8 @@ module _ (l : Transactions) (ds : List Transaction) (es es′ : List MessageReco
         ap (underway d) (mod-eq-of-lt (omega (arith, less, same, one, needed-fits (d .count) countFits)))
 
     pub for-holding : TransactionsFor
-        (after l (wired ds e) (holding (l .lowest) (l .closed) was (headOf (wired ds e)))) ds es′
-    unfolding after holding headOf
+        (after l (wired ds e) (openVerdict (l .lowest) (l .closed) was (messageHeader (wired ds e)))) ds es′
+    unfolding after openVerdict messageHeader
     for-holding =
         subst
         (λ (o : Open).
@@ -358,8 +358,8 @@ module _ (l : Transactions) (ds : List Transaction) (es es′ : List MessageReco
         rw z (entry-old (i - 32) (omega arith) (omega arith) (ℕ-discrete (e .trans) (i - 32)))
         ∙ entry-full (i - 32) f ∙ sym (entry-beyond i (omega arith))
 
-    pub for-closing : TransactionsFor (after l (wired ds e) (closing (l .lowest) (l .closed) dist)) ds es′
-    unfolding after closing advance marked run
+    pub for-closing : TransactionsFor (after l (wired ds e) (closedVerdict (l .lowest) (l .closed) dist)) ds es′
+    unfolding after closedVerdict advance marked run
     for-closing = record {
       lowestIs =
           ap (λ (n : ℕ). (n + run) % transSpace) (r .lowestIs) ∙ mod-add-mod (low ds es) transSpace run

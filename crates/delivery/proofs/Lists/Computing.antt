@@ -3,11 +3,11 @@
 use Rattle.seq.specs.Ring.{distance, advance, latest}
 use Rattle.bitmap.specs.Marks.{mark, withMark, leading, trailingOnes, marksOf}
 use Rattle.octets.specs.Octets.{little, value, field, inside, written}
-use Rattle.wire.specs.Format.{headOf, needed, nextHeader}
+use Rattle.wire.specs.Format.{messageHeader, needed, nextHeader}
 use Rattle.wire.specs.Reading.{addressed, follows, messageAt, messagesFrom, headingOf, readFrame}
 use Rattle.wire.specs.Writing.{frameHead, messageHead, laid, frameOf, ackFrame, roomFor, firstMessage, nextMessage}
 use Rattle.host.specs.Terms.{agrees, termsRefusal, addressRefusal}
-use Rattle.host.specs.Transactions.{fills, refusing, closing, holding, verdictOf, verdict, after}
+use Rattle.host.specs.Transactions.{fills, refusedVerdict, closedVerdict, openVerdict, verdictOf, verdict, after}
 use Rattle.host.specs.Host.{
   fresh,
   openedOf,
@@ -123,9 +123,9 @@ use Rattle.delivery.proofs.Lists.Same.{
 use Rattle.delivery.proofs.Lists.Check.{every, below, apart, noByteTwice, writesAllowed, judge, judgedAs}
 
 unfoldable pub computing : Unit {0}
-unfolding distance advance latest mark withMark leading trailingOnes marksOf little value field inside written headOf
+unfolding distance advance latest mark withMark leading trailingOnes marksOf little value field inside written messageHeader
     needed nextHeader addressed follows messageAt messagesFrom headingOf readFrame frameHead messageHead laid frameOf
-    ackFrame roomFor firstMessage nextMessage agrees termsRefusal addressRefusal fills refusing closing holding
+    ackFrame roomFor firstMessage nextMessage agrees termsRefusal addressRefusal fills refusedVerdict closedVerdict openVerdict
     verdictOf verdict after fresh openedOf effect takeIn takeAll settled runFrom afterFrame accepting byNumber receiveOf
     acknowledgementFrom emptyWindow held beforeHeld sealing acknowledgedBy releasing acknowledging noSendings
     openingRefusal opening takes adding allReleased finishedBy passing finishing freshCard fits cardRefusal openCard

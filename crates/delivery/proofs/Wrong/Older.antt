@@ -1,4 +1,4 @@
--- Demand 3 shuts out the older host, which takes a new frame for an old copy once frame numbers have come round: it
+-- Demand 3 shuts out the older host, which takes a new frame for an old copy once frame numbers have wrapped: it
 -- compares the 16-bit numbers plainly, so that frame 65,536, whose number is 0, lies "behind" while frame 65,535 is
 -- awaited; and a frame that is behind it acknowledges and throws away. Nothing of this shows before the numbers come
 -- round. So the list that refutes it brings 65,535 frames through in order, loses the next one and delivers the one

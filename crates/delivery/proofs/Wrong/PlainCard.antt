@@ -1,5 +1,5 @@
 -- Demand 3 shuts out a card that compares frame numbers by plain less-than where it reads acknowledgements. Nothing of
--- it shows before the numbers come round: so the list that refutes it brings 65,535 frames through, seals two more and
+-- it shows before the numbers wrap: so the list that refutes it brings 65,535 frames through, seals two more and
 -- has the acknowledgement of the second, whose number is 0, come first. The card takes it for an old one, and has a
 -- frame left in the end. Assumes nothing.
 use Prim.Native.Nat.{ℕ, suc, _+_, _%_, _≤_, _<_}

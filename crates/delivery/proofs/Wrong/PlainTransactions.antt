@@ -1,5 +1,5 @@
 -- Demand 3 shuts out a host that compares transaction numbers by plain less-than. Nothing of it shows before these
--- numbers come round: so the list that refutes it brings 4,294,967,295 transactions through, opens two more and
+-- numbers wrap: so the list that refutes it brings 4,294,967,295 transactions through, opens two more and
 -- delivers the message of the second, whose number is 0. Assumes nothing.
 use Prim.Native.Nat.{ℕ, suc, _%_}
 use native.Mathlib.Omega.{arith}

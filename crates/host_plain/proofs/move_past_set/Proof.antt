@@ -1,7 +1,7 @@
 -- `host_plain::move_past_set` moves the marks place by place, as long as the first is set.
 -- Assumes nothing.
 use native.Mathlib.Omega.{arith}
-use Rattle.host_plain.specs.Plain.{firstSet}
+use Rattle.host_plain.specs.Plain.{leadingSet}
 use Rattle.host_plain.proofs.Marks.{set-le, Passing, passing-start, passing-turn, passing-done}
 use Rattle.host_plain.proofs.move_past_set.Statement.{statement}
 use Rattle.host_plain.proofs.move_past_set.Tie as tie
@@ -13,7 +13,7 @@ abbrev Inv-loop : tie.InvT-loop
 Inv-loop marks₀ places₀ marks places = Passing marks₀ marks places
 
 abbrev μ-loop : tie.MeasureT-loop
-μ-loop marks₀ places₀ marks places = firstSet marks
+μ-loop marks₀ places₀ marks places = leadingSet marks
 
 loop-holds : tie.Need-loop-holds Inv-loop μ-loop
 loop-holds c = passing-start _ (c .before .pre .0)

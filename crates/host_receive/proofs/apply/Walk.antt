@@ -8,7 +8,7 @@ use native.Mathlib.Omega.{arith}
 use borrow.Author.Tests.{le-leb, lt-leb}
 use lib.ListN.{length, getD, set}
 use Rattle.wire.specs.declared.MessageHeader.{MessageHeader}
-use Rattle.wire.specs.Format.{carrying, headOf, nextHeader}
+use Rattle.wire.specs.Format.{carrying, messageHeader, nextHeader}
 use Rattle.wire.specs.Reading.{dataEnd, messageAt}
 use Rattle.wire_read.specs.declared.Found.the-variants.{PastEnd}
 use Rattle.wire_read.specs.Finding.{headAt, foundAt, dataAt}
@@ -41,8 +41,8 @@ module _ (f : List ℕ) (at n : ℕ) (table : List Open) (memory : List ℕ) whe
 
   pub applied-more : dataEnd f at ≤ length f → appliedFrom (suc n) f at table memory
       ≡ appliedFrom n f (nextHeader (dataEnd f at))
-      (set table (messageAt f at .trans % 32) (leftIn its-entry (headOf (messageAt f at))))
-      (effect memory (messageAt f at) (fills its-entry (headOf (messageAt f at))))
+      (set table (messageAt f at .trans % 32) (leftIn its-entry (messageHeader (messageAt f at))))
+      (effect memory (messageAt f at) (fills its-entry (messageHeader (messageAt f at))))
   unfolding appliedFrom
   applied-more h = rw (le-leb (dataEnd f at) (length f) h)
 
@@ -50,12 +50,12 @@ module _ (f : List ℕ) (at n : ℕ) (table : List Open) (memory : List ℕ) whe
 
 module _ {f : List ℕ} {at : ℕ} {h : MessageHeader} {len : ℕ} {more : Bool} {next : ℕ}
     (x : IsWhole f at h len more next) where
-  head-is : h ≡ headOf (messageAt f at)
-  unfolding headOf messageAt headAt
+  head-is : h ≡ messageHeader (messageAt f at)
+  unfolding messageHeader messageAt headAt
   head-is = x .header-is
 
   carrying-is : carrying h (dataAt f at) ≡ messageAt f at
-  unfolding carrying headOf messageAt headAt
+  unfolding carrying messageHeader messageAt headAt
   carrying-is = rw (x .header-is, ← data-whole f at (x .inside-frame))
 
 -- ---- where the walk stands: i messages took effect, and what is left to do from here makes the whole
@@ -111,7 +111,7 @@ module _ {w₀ f memory₀ : List ℕ} {n : ℕ} {w memory : List ℕ} {at i : �
     stepped : (k : ℕ) (table left-table : List Open) (memory-left : List ℕ) (o : Open) → o ≡ getD table s free
         → left-table ≡ set table s (leftIn o h) → memory-left ≡ effect memory (carrying h (dataAt f at)) (fills o h)
         → appliedFrom (suc k) f at table memory ≡ appliedFrom k f next left-table memory-left
-    unfolding headOf
+    unfolding messageHeader
     stepped k table left-table memory-left o o-is t m =
         applied-more f at k table memory (x .inside-frame)
         ∙ rw (t, m, o-is, carrying-is x, x .next-is, head-is x)

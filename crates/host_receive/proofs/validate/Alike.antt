@@ -12,7 +12,7 @@ use Rattle.wire.specs.declared.MessageHeader.{MessageHeader}
 use Rattle.host.specs.declared.Open.{Open}
 use Rattle.host.specs.declared.Verdict.{Verdict}
 use Rattle.host.specs.Terms.{free, agrees, termsRefusal, messageRefusal}
-use Rattle.host.specs.Transactions.{fills, refusing, closing, holding, verdictOf}
+use Rattle.host.specs.Transactions.{fills, refusedVerdict, closedVerdict, openVerdict, verdictOf}
 
 abbrev pub Alike : Open → Open → Type 0
 Alike a b = (a ≡ b) ⊎ ((a .received ≡ 0) × (b .received ≡ 0))
@@ -30,8 +30,8 @@ module _ (o p : Open) (h : MessageHeader) (a : o .received ≡ 0) (b : p .receiv
   unfolding termsRefusal
   refuse-alike d closed len size = rw agree-alike
 
-  hold-alike : (lowest closed : ℕ) → holding lowest closed o h ≡ holding lowest closed p h
-  unfolding holding
+  hold-alike : (lowest closed : ℕ) → openVerdict lowest closed o h ≡ openVerdict lowest closed p h
+  unfolding openVerdict
   hold-alike lowest closed = rw (a, b)
 
 -- the same refusal, and where there is none the same verdict
@@ -41,7 +41,7 @@ module _ (lowest closed : ℕ) (h : MessageHeader) (len size : ℕ) where
 
   pub verdict-alike : (o p : Open) → Alike o p
       → (its o .refusal ≡ its p .refusal) × (its o .refusal ≡ 0 → its o ≡ its p)
-  unfolding verdictOf refusing
+  unfolding verdictOf refusedVerdict
   verdict-alike o p (inl e) = (ap (λ (x : Open). its x .refusal) e, λ z. ap its e)
   verdict-alike o p (inr (a, b)) = go (eqb r 0) refl
     where
@@ -62,7 +62,7 @@ module _ (lowest closed : ℕ) (h : MessageHeader) (len size : ℕ) where
 
   -- one that completes its transaction leaves the entry free
   pub done-free : (o : Open) → its o .done ≡ true → its o .entry ≡ free
-  unfolding verdictOf refusing closing holding
+  unfolding verdictOf refusedVerdict closedVerdict openVerdict
   done-free o e = go (eqb r 0) refl (fills o h) refl
     where
       d : ℕ

@@ -11,7 +11,7 @@ use lib.ListN.{length, getD, set}
 use Rattle.octets.specs.Octets.{field}
 use Rattle.bitmap.specs.Marks.{mark}
 use Rattle.wire.specs.declared.MessageHeader.{MessageHeader}
-use Rattle.wire.specs.Format.{headOf, nextHeader, frameMost}
+use Rattle.wire.specs.Format.{messageHeader, nextHeader, frameMost}
 use Rattle.wire.specs.Reading.{follows, dataEnd, messageAt}
 use Rattle.wire_read.specs.declared.Found.the-variants.{PastEnd}
 use Rattle.wire_read.specs.Finding.{headAt, foundAt}
@@ -88,18 +88,18 @@ module _ (f : List ℕ) (size at : ℕ) (g : Progress) where
 
 module _ {f : List ℕ} {at : ℕ} {h : MessageHeader} {len : ℕ} {more : Bool} {next : ℕ}
     (x : IsWhole f at h len more next) where
-  head-is : h ≡ headOf (messageAt f at)
-  unfolding headOf messageAt headAt
+  head-is : h ≡ messageHeader (messageAt f at)
+  unfolding messageHeader messageAt headAt
   head-is = x .header-is
 
   number-is : h .trans .0 % 32 ≡ messageAt f at .trans % 32
-  unfolding headOf
+  unfolding messageHeader
   number-is = ap (λ (h : MessageHeader). h .trans .0 % 32) head-is
 
   verdict-is : (t : Transactions) (size : ℕ)
       → verdictOf (t .lowest) (t .closed) (getD (t .table) (h .trans .0 % 32) free) h len size
       ≡ verdict t size (messageAt f at)
-  unfolding verdict headOf
+  unfolding verdict messageHeader
   verdict-is t size = rw (head-is, ← x .bytes-are)
 
   -- a turn is left for it

@@ -17,7 +17,7 @@ use Rattle.hex.specs.Fields.{digitOf, hex, laid, lineOf, linesOf}
 use Rattle.host.specs.declared.Open.{Open}
 use Rattle.host.specs.declared.Pair.{Pair}
 use Rattle.host_words.specs.Describing.{numberAt, entryAt, isOpen, openCount}
-use Rattle.host_stored.specs.Form.{openWidths, openOf, opensFrom, opensOf}
+use Rattle.host_stored.specs.Form.{openWidths, openLine, opensFrom, opensOf}
 use Rattle.host_stored.proofs.Length.{opens-most}
 use Rattle.host_store.specs.Lines.{entryLines, linesAt}
 
@@ -61,7 +61,7 @@ none-put : (out : List ℕ) (at number : ℕ) (o : Open) → o .received ≡ 0
 unfolding entryLines linesOf
 none-put out at number o e = let t = eq-eqb (o .received) 0 e in (rw t (omega arith), rw t)
 
-pub line-bytes : (bytes : List ℕ) (number : ℕ) (o : Open) → bytes ≡ laid openWidths (openOf number o)
+pub line-bytes : (bytes : List ℕ) (number : ℕ) (o : Open) → bytes ≡ laid openWidths (openLine number o)
     → length bytes ≡ 16
 unfolding laid little
 line-bytes bytes number o e = ap length e
@@ -71,14 +71,14 @@ unfolding entryLines
 one-line number o n = rw (ne-eqb (o .received) 0 n)
 
 one-put : (out last bytes : List ℕ) (at end number : ℕ) (o : Open) → o .received ≢ 0
-    → bytes ≡ laid openWidths (openOf number o)
+    → bytes ≡ laid openWidths (openLine number o)
     → (end ≡ at + (2 * length bytes + 1)) × (last ≡ sets out at (hex bytes ++ (10 ∷ [])))
     → (end ≡ at + 33 * length (entryLines number o)) × (last ≡ sets out at (linesOf openWidths (entryLines number o)))
 unfolding entryLines linesOf lineOf
 one-put out last bytes at end number o n e p =
     let t = ne-eqb (o .received) 0 n in
     let s = line-bytes bytes number o e in
-    (p .0 ∙ rw t (omega arith), p .1 ∙ rw (t, e, append-nil (hex (laid openWidths (openOf number o)) ++ (10 ∷ []))))
+    (p .0 ∙ rw t (omega arith), p .1 ∙ rw (t, e, append-nil (hex (laid openWidths (openLine number o)) ++ (10 ∷ []))))
 
 lines-length : (number : ℕ) (o : Open)
     → length (linesOf openWidths (entryLines number o)) ≡ 33 * length (entryLines number o)
@@ -86,8 +86,8 @@ unfolding entryLines linesOf lineOf hex laid little
 lines-length number o = go (eqb (o .received) 0)
   where
     go : (b : Bool)
-        → length (linesOf openWidths (cond b [] (openOf number o ∷ [])))
-        ≡ 33 * length (cond b [] (openOf number o ∷ []))
+        → length (linesOf openWidths (cond b [] (openLine number o ∷ [])))
+        ≡ 33 * length (cond b [] (openLine number o ∷ []))
     go true = refl
     go false = refl
 
@@ -100,7 +100,7 @@ pub one-at : (p : Pair) (j : ℕ) (o : Open) → o ≡ entryAt p j → o .receiv
 one-at p j o e z = rw (← e) (one-line (numberAt p j) o z)
 
 pub put-at : (out last bytes : List ℕ) (at end j number : ℕ) (p : Pair) (o : Open) → o ≡ entryAt p j
-    → o .received ≢ 0 → number ≡ numberAt p j → bytes ≡ laid openWidths (openOf number o)
+    → o .received ≢ 0 → number ≡ numberAt p j → bytes ≡ laid openWidths (openLine number o)
     → (end ≡ at + (2 * length bytes + 1)) × (last ≡ sets out at (hex bytes ++ (10 ∷ [])))
     → (end ≡ at + 33 * length (linesAt p j)) × (last ≡ sets out at (linesOf openWidths (linesAt p j)))
 put-at out last bytes at end j number p o e z n b w =
@@ -129,8 +129,8 @@ module _ (p : Pair) where
   opens-suc k j = go (eqb (entryAt p j .received) 0)
     where
       go : (b : Bool)
-          → cond b (opens k (suc j)) (openOf (numberAt p j) (entryAt p j) ∷ opens k (suc j))
-          ≡ cond b [] (openOf (numberAt p j) (entryAt p j) ∷ []) ++ opens k (suc j)
+          → cond b (opens k (suc j)) (openLine (numberAt p j) (entryAt p j) ∷ opens k (suc j))
+          ≡ cond b [] (openLine (numberAt p j) (entryAt p j) ∷ []) ++ opens k (suc j)
       go true = refl
       go false = refl
 
@@ -145,7 +145,7 @@ module _ (p : Pair) where
 
       go : (b : Bool) → eqb (entryAt p j .received) 0 ≡ b → openCount k (suc j) p ≡ length rest
           → cond (isOpen p j) (suc (openCount k (suc j) p)) (openCount k (suc j) p)
-          ≡ length (cond b rest (openOf (numberAt p j) (entryAt p j) ∷ rest))
+          ≡ length (cond b rest (openLine (numberAt p j) (entryAt p j) ∷ rest))
       go true e ih = rw (le-ltb 0 (entryAt p j .received) (omega (arith, eqb-true (entryAt p j .received) 0 e))) ih
       go false e ih =
           let ne = eqb-false (entryAt p j .received) 0 e in

@@ -22,7 +22,7 @@ use Rattle.host_stored.specs.declared.Stored.{Stored}
 use Rattle.host_stored.specs.Form.{
   headWidths,
   openWidths,
-  headOf,
+  firstLine,
   opensOf,
   textAs,
   notStored,
@@ -34,7 +34,7 @@ use Rattle.host_stored.proofs.Length.{text-length}
 -- the first line's bytes, from numbers that are the pair's
 pub head-laid : (p : Pair) (own peer : ℕ) (next : FrameNo) (marks : ℕ) (lowest : TransNo) (closed : ℕ)
     → own ≡ p .own → peer ≡ p .peer → next ≡ p .next → marks ≡ p .marks → lowest ≡ p .lowest → closed ≡ p .closed
-    → laid headWidths (1 ∷ own ∷ peer ∷ next .0 ∷ marks ∷ lowest .0 ∷ closed ∷ []) ≡ laid headWidths (headOf 1 p)
+    → laid headWidths (1 ∷ own ∷ peer ∷ next .0 ∷ marks ∷ lowest .0 ∷ closed ∷ []) ≡ laid headWidths (firstLine 1 p)
 head-laid p own peer next marks lowest closed a b c d e f = rw (a, b, c, d, e, f)
 
 module _ (version : ℕ) (p : Pair) (buffer : List ℕ) where
@@ -82,11 +82,11 @@ module _ (version : ℕ) (p : Pair) (buffer : List ℕ) where
       unfolding storedAs
       long-enough l = rw (ne-eqb (p .own) 0 own, ne-eqb (p .peer) 0 peer, size-is, le-ltb (length buffer) size l)
 
-      pub head-size : (head : List ℕ) → head ≡ laid headWidths (headOf version p) → length head ≡ 23
+      pub head-size : (head : List ℕ) → head ≡ laid headWidths (firstLine version p) → length head ≡ 23
       unfolding laid little
       head-size head e = ap length e
 
-      text-put : (head middle last : List ℕ) (end : ℕ) → head ≡ laid headWidths (headOf version p)
+      text-put : (head middle last : List ℕ) (end : ℕ) → head ≡ laid headWidths (firstLine version p)
           → end ≡ 0 + (2 * length head + 1) → middle ≡ sets buffer 0 (hex head ++ (10 ∷ []))
           → last ≡ sets middle end (linesOf openWidths (opensOf p)) → last ≡ sets buffer 0 (textAs version p)
       unfolding textAs lineOf
@@ -97,7 +97,7 @@ module _ (version : ℕ) (p : Pair) (buffer : List ℕ) where
           w ∙ rw (m, at, ← sets-append buffer first (linesOf openWidths (opensOf p)) 0, h)
 
       pub fits : (head middle last : List ℕ) (end : ℕ) → size ≤ length buffer
-          → head ≡ laid headWidths (headOf version p)
+          → head ≡ laid headWidths (firstLine version p)
           → end ≡ 0 + (2 * length head + 1) → middle ≡ sets buffer 0 (hex head ++ (10 ∷ []))
           → last ≡ sets middle end (linesOf openWidths (opensOf p))
           → (record { refusal = 0; length = size } ≡ storedAs version p buffer) × (last ≡ bufferAs version p buffer)

@@ -1,4 +1,4 @@
--- What the words of a place come to when they are written, and each outcome of feeding and closing, for whatever host
+-- What the words of a place come to when they are written, and each outcome of feeding and nowClosed, for whatever host
 -- answers the lines: the proofs of the calls over a host cite these.
 -- Assumes nothing.
 use mathlib.Core.Path.{_≡_, refl, sym, _∙_, ap}
@@ -31,7 +31,7 @@ use Rattle.replay_text.specs.Feeding.{
   withCharacters,
   lineAnswer,
   lineEnded,
-  closing,
+  nowClosed,
   Step,
   feed,
   ClosedStep,
@@ -259,7 +259,7 @@ module _ (place : List ℕ) (pair : Pair) (frame memory fragment : List ℕ) whe
               ∙ sym (ap (λ (x : Step Replaying). x .state) (k .step-is)),
         )
 
--- ---- closing
+-- ---- nowClosed
 
 module _ (place : List ℕ) (pair : Pair) (frame memory : List ℕ) where
   abbrev here : Replaying
@@ -274,11 +274,11 @@ module _ (place : List ℕ) (pair : Pair) (frame memory : List ℕ) where
   close-told step e place′ pair′ memory′ h = rw e (refl, h)
 
   -- the words with the mark that the replay is closed
-  shut-is : stateOf (placeWords (totalsIn place) (linesIn place) 1 (lineOf place)) pair frame memory ≡ closing here
+  shut-is : stateOf (placeWords (totalsIn place) (linesIn place) 1 (lineOf place)) pair frame memory ≡ nowClosed here
   shut-is = rw (line-kept (totalsIn place) (linesIn place) 1 (lineOf place) frame)
 
   pub closed-open : closedIn place ≡ false
-      → (closingOf place .totals ≡ totalsIn place) × (stateOf (placeClosed place) pair frame memory ≡ closing here)
+      → (closingOf place .totals ≡ totalsIn place) × (stateOf (placeClosed place) pair frame memory ≡ nowClosed here)
   unfolding closingOf placeClosed
   closed-open o =
       let shut : placeClosed place ≡ placeWords (totalsIn place) (linesIn place) 1 (lineOf place) = rw o in
@@ -295,7 +295,7 @@ module _ (place : List ℕ) (pair : Pair) (frame memory : List ℕ) (room : 9000
       let c : closingOf place ≡ record { reply = Nothing; totals = totalsIn place } = rw o in
       rw c
       (close-told place pair frame memory
-      (record { state = closing (stateOf place pair frame memory); reply = Nothing; totals = totalsIn place })
+      (record { state = nowClosed (stateOf place pair frame memory); reply = Nothing; totals = totalsIn place })
       (rw (h, o)) (placeClosed place) pair memory (closed-open place pair frame memory o .1))
 
   bare : lastIn place ≡ false
@@ -365,7 +365,7 @@ module _ (place : List ℕ) (pair : Pair) (frame memory : List ℕ) (room : 9000
       let c = closed-open place′ pair′ frame memory′ o in
       let step : close (stateOf place pair frame memory)
       ≡ record {
-        state = closing (lineEnded (stateOf place pair frame memory));
+        state = nowClosed (lineEnded (stateOf place pair frame memory));
         reply = Answered (lineAnswer (stateOf place pair frame memory));
         totals = lineEnded (stateOf place pair frame memory) .totals;
       } =
@@ -379,7 +379,7 @@ module _ (place : List ℕ) (pair : Pair) (frame memory : List ℕ) (room : 9000
       }) =
       rw (totals, a) in (
         closed ∙ sym (ap closedOf step),
-        ap (λ (w : List ℕ). stateOf w pair′ frame memory′) (q .1) ∙ c .1 ∙ ap closing z
+        ap (λ (w : List ℕ). stateOf w pair′ frame memory′) (q .1) ∙ c .1 ∙ ap nowClosed z
             ∙ sym (ap (λ (x : ClosedStep). x .state) step),
       )
 

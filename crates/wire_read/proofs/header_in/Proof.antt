@@ -1,6 +1,6 @@
 -- `wire_read::header_in`: each field as the definition reads it.
 -- Assumes nothing.
-use Rattle.wire.specs.Format.{headOf}
+use Rattle.wire.specs.Format.{messageHeader}
 use Rattle.wire.specs.Reading.{messageAt}
 use Rattle.wire_read.specs.Finding.{headAt}
 use borrow.Author.Needs.{needs}
@@ -39,7 +39,7 @@ u32-in-requires-4 : tie.Need-u32-in-requires-4
 u32-in-requires-4 c κs = search needs
 
 returns : tie.Need-returns
-unfolding headAt headOf messageAt
+unfolding headAt messageHeader messageAt
 returns c =
     rw (
       c .before .before .before .before .u32-in .ensures,

@@ -264,7 +264,7 @@ fn acknowledgements(script: &mut Script) {
     script.read(1, 1);
     script.line("show 1", "R 25");
     script.line("choose -", &shown(0));
-    // The range goes round, and past what is sealed.
+    // The range wraps, and past what is sealed.
     script.line("add 0 0 -", "ok");
     script.read(65_530, 7);
     script.line("choose -", &shown(2));

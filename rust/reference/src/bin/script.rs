@@ -1,6 +1,6 @@
 //! Writes a script for the program `calls` to standard output: `script wild SEED LINES`
 //! has lines of any kind, `script list SEED CALLS` a short list of demand 3 and
-//! `script long SEED CALLS` one in which all frame numbers come round.
+//! `script long SEED CALLS` one in which all frame numbers wrap.
 
 #![forbid(unsafe_code)]
 

@@ -64,7 +64,7 @@ impl Profile {
         }
     }
 
-    /// A kind for a list in which all frame numbers come round.
+    /// A kind for a list in which all frame numbers wrap.
     pub fn long(hold: usize) -> Profile {
         Profile {
             card: 2,

@@ -43,7 +43,7 @@ pub struct Tally {
     pub frame_wraps: u64,
     /// As above.
     pub transaction_wraps: u64,
-    /// Transactions in the card's window when their last frame's number came round.
+    /// Transactions in the card's window when their last frame's number wrapped.
     pub came_round: u64,
     /// Calls after which all opened transactions were finished.
     pub settled: u64,

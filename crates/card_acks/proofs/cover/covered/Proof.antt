@@ -1,4 +1,4 @@
--- `covered`: one run, or two where the range comes round.
+-- `covered`: one run, or two where the range wraps.
 -- Assumes nothing.
 use mathlib.Core.Path.{_∙_}
 use Rattle.card_acks.proofs.cover.InPlace.{covered-near, covered-round}

@@ -9,15 +9,15 @@ use Rattle.card_acks.proofs.finish.is_all_released.Statement.{statement
 use Rattle.card_acks.proofs.finish.is_all_released.Tie as tie
 use Rattle.card_acks.proofs.finish.is_all_released.Reads as reads
 use Rattle.card_acks.proofs.finish.is_all_released.Lts as lts
-use Rattle.card.proofs.messages_of.Reads as messages-of-reads
+use Rattle.wire.proofs.messages_needed.Reads as messages-needed-reads
 use Rattle.seq.proofs.FrameNo.distance.Reads as distance-reads
 
-messages-of-requires : tie.Need-messages-of-requires
-messages-of-requires c κs = search needs
+messages-needed-requires : tie.Need-messages-needed-requires
+messages-needed-requires c κs = search needs
 
 returns : tie.Need-returns
 unfolding allReleased
-returns c = rw (← c .before .before .messages-of .ensures, ne-eqb _ _ (c .if1 .taken))
+returns c = rw (← c .before .before .messages-needed .ensures, ne-eqb _ _ (c .if1 .taken))
 
 distance-requires : tie.Need-distance-requires
 distance-requires c κs = search needs
@@ -33,9 +33,9 @@ returns-2 c =
     let away : c .before .distance .result ≡ distance frameSpace (a .from .0) (a .e .frame .0) =
     c .before .distance .ensures in
     let released : c .distance2 .result ≡ distance frameSpace (a .from .0) (a .base .0) = c .distance2 .ensures in
-    rw (← s .before .before .messages-of .ensures, eq-eqb _ _ (s .if1 .left), ← away, ← released)
+    rw (← s .before .before .messages-needed .ensures, eq-eqb _ _ (s .if1 .left), ← away, ← released)
 
 pub is-all-released-spec : {M : Type 1} → statement M
 is-all-released-spec =
     tie.close
-    (tie.spec messages-of-requires returns distance-requires distance-requires-2 returns-2)
+    (tie.spec messages-needed-requires returns distance-requires distance-requires-2 returns-2)

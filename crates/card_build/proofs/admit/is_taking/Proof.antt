@@ -6,7 +6,7 @@ use Rattle.card_build.proofs.admit.is_taking.Statement.{statement}
 use Rattle.card_build.proofs.admit.is_taking.Tie as tie
 use Rattle.card_build.proofs.admit.is_taking.Reads as reads
 use Rattle.card_build.proofs.admit.is_taking.Lts as lts
-use Rattle.card.proofs.messages_of.Reads as messages-of-reads
+use Rattle.wire.proofs.messages_needed.Reads as messages-needed-reads
 use Rattle.card_words.proofs.head_of.Reads as head-of-reads
 use Rattle.card_words.proofs.sending_at.Reads as sending-at-reads
 use Rattle.seq.proofs.TransNo.distance.Reads as distance-reads
@@ -32,8 +32,8 @@ returns c =
 sending-at-requires : tie.Need-sending-at-requires
 sending-at-requires c κs = search needs
 
-messages-of-requires : tie.Need-messages-of-requires
-messages-of-requires c κs = search needs
+messages-needed-requires : tie.Need-messages-needed-requires
+messages-needed-requires c κs = search needs
 
 returns-2 : tie.Need-returns-2
 returns-2 c =
@@ -44,7 +44,7 @@ returns-2 c =
     let a = s .before .before .args in
     takes-some (a .words .now) _ (s .head-of .ensures) _ (d .before .distance .ensures) (a .t .0) _
     (d .distance2 .ensures)
-    (x .if1 .left) _ _ (m .before .sending-at .ensures) (m .messages-of .ensures)
+    (x .if1 .left) _ _ (m .before .sending-at .ensures) (m .messages-needed .ensures)
 
 pub is-taking-spec : {M : Type 1} → statement M
 is-taking-spec =
@@ -55,5 +55,5 @@ is-taking-spec =
     distance-requires-2
     returns
     sending-at-requires
-    messages-of-requires
+    messages-needed-requires
     returns-2)

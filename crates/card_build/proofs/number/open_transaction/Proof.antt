@@ -11,8 +11,8 @@ use Rattle.card_build.proofs.number.open_transaction.Tie as tie
 use Rattle.card_build.proofs.number.open_transaction.Reads as reads
 use Rattle.card_build.proofs.number.open_transaction.Lts as lts
 use Rattle.card_words.proofs.head_of.Reads as head-of-reads
-use Rattle.card_words.proofs.store.put_head.Reads as put-head-reads
-use Rattle.card_words.proofs.store.put_sending.Reads as put-sending-reads
+use Rattle.card_words.proofs.update.put_head.Reads as put-head-reads
+use Rattle.card_words.proofs.update.put_sending.Reads as put-sending-reads
 use Rattle.seq.proofs.TransNo.advance.Reads as advance-reads
 use Rattle.seq.proofs.TransNo.distance.Reads as distance-reads
 

@@ -12,8 +12,8 @@ use Rattle.card_build.proofs.number.seal_frame.Reads as reads
 use Rattle.card_build.proofs.number.seal_frame.Lts as lts
 use Rattle.card_build.proofs.number.seal_refusal.Reads as seal-refusal-reads
 use Rattle.card_words.proofs.head_of.Reads as head-of-reads
-use Rattle.card_words.proofs.store.put_head.Reads as put-head-reads
-use Rattle.card_words.proofs.store.put_size.Reads as put-size-reads
+use Rattle.card_words.proofs.update.put_head.Reads as put-head-reads
+use Rattle.card_words.proofs.update.put_size.Reads as put-size-reads
 use Rattle.seq.proofs.FrameNo.advance.Reads as advance-reads
 
 returns : tie.Need-returns

@@ -13,7 +13,7 @@ use Rattle.card_build.proofs.opening.open_card.Reads as reads
 use Rattle.card_build.proofs.opening.open_card.Lts as lts
 use Rattle.card_build.proofs.opening.card_refusal.Reads as card-refusal-reads
 use Rattle.card_build.proofs.opening.clear.Reads as clear-reads
-use Rattle.card_words.proofs.store.put_head.Reads as put-head-reads
+use Rattle.card_words.proofs.update.put_head.Reads as put-head-reads
 
 returns : tie.Need-returns
 returns c = (rw (ne-eqb _ 85 (c .if1 .taken)), (λ l. absurd (c .if1 .taken l), λ n. refl))

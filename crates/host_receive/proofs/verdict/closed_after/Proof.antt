@@ -1,6 +1,6 @@
 -- `host_receive::verdict::closed_after`: the mark and the move of the window.
 -- Assumes nothing.
-use Rattle.host.specs.Transactions.{closing}
+use Rattle.host.specs.Transactions.{closedVerdict}
 use borrow.Author.Needs.{needs}
 use Rattle.host_receive.proofs.verdict.closed_after.Statement.{statement}
 use Rattle.host_receive.proofs.verdict.closed_after.Tie as tie
@@ -24,7 +24,7 @@ shifted-requires : tie.Need-shifted-requires
 shifted-requires c κs = search needs
 
 returns : tie.Need-returns
-unfolding closing
+unfolding closedVerdict
 returns c =
     rw (
       c .shifted .ensures,

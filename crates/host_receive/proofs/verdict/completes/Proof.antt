@@ -13,14 +13,14 @@ use Rattle.host_receive.proofs.verdict.completes.Statement.{statement}
 use Rattle.host_receive.proofs.verdict.completes.Tie as tie
 use Rattle.host_receive.proofs.verdict.completes.Reads as reads
 use Rattle.host_receive.proofs.verdict.completes.Lts as lts
-use Rattle.host_receive.proofs.verdict.messages_of.Reads as messages-of-reads
+use Rattle.wire.proofs.messages_needed.Reads as messages-needed-reads
 
 as-many : (o : Open) (h : MessageHeader) (n : ℕ) → n ≡ needed (h .count) → eqb n (o .received + 1) ≡ fills o h
 unfolding fills
 as-many o h n n-is = rw (n-is, add-one (o .received))
 
-messages-of-requires : tie.Need-messages-of-requires
-messages-of-requires c κs = search needs
+messages-needed-requires : tie.Need-messages-needed-requires
+messages-needed-requires c κs = search needs
 
 cast-result : tie.Need-cast-result
 cast-result c = search needs
@@ -32,7 +32,7 @@ add-result : tie.Need-add-result
 add-result c = search needs
 
 returns : tie.Need-returns
-returns c = as-many _ _ _ (c .before .messages-of .ensures)
+returns c = as-many _ _ _ (c .before .messages-needed .ensures)
 
 pub completes-spec : {M : Type 1} → statement M
-completes-spec = tie.close (tie.spec messages-of-requires cast-result cast-result-2 add-result returns)
+completes-spec = tie.close (tie.spec messages-needed-requires cast-result cast-result-2 add-result returns)

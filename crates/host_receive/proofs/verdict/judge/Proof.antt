@@ -1,7 +1,7 @@
 -- `host_receive::verdict::judge`: the three verdicts.
 -- Assumes nothing.
 use mathlib.Core.Path.{sym, _∙_}
-use Rattle.host.specs.Transactions.{refusing, holding}
+use Rattle.host.specs.Transactions.{refusedVerdict, openVerdict}
 use Rattle.host.proofs.Judging.{is-refused, is-closing, is-holding}
 use borrow.Author.Needs.{needs}
 use Rattle.host_receive.proofs.verdict.judge.Statement.{statement}
@@ -21,7 +21,7 @@ first-refusal-requires : tie.Need-first-refusal-requires
 first-refusal-requires c κs = search needs
 
 returns : tie.Need-returns
-unfolding refusing
+unfolding refusedVerdict
 returns c =
     let a = c .before .before .before .before .args in
     is-refused (a .lowest .0) (a .closed) (a .o) (a .h) (a .len) (a .size) _ _
@@ -46,7 +46,7 @@ one-more-requires : tie.Need-one-more-requires
 one-more-requires c κs = search needs
 
 returns-3 : tie.Need-returns-3
-unfolding holding
+unfolding openVerdict
 returns-3 c =
     let passed = c .before .before .before in
     let a = passed .before .before .before .before .args in

@@ -1,12 +1,12 @@
 -- `put_size`: one word, in which one length is another.
 -- Assumes nothing.
 use mathlib.Core.Path.{refl}
-use Rattle.card_words.proofs.store.Words.{resized-card}
+use Rattle.card_words.proofs.update.Words.{resized-card}
 use borrow.Author.Needs.{needs}
-use Rattle.card_words.proofs.store.put_size.Statement.{statement}
-use Rattle.card_words.proofs.store.put_size.Tie as tie
-use Rattle.card_words.proofs.store.put_size.Reads as reads
-use Rattle.card_words.proofs.store.put_size.Lts as lts
+use Rattle.card_words.proofs.update.put_size.Statement.{statement}
+use Rattle.card_words.proofs.update.put_size.Tie as tie
+use Rattle.card_words.proofs.update.put_size.Reads as reads
+use Rattle.card_words.proofs.update.put_size.Lts as lts
 use Rattle.words.proofs.put.Reads as put-reads
 use Rattle.words.proofs.with_quarter.Reads as with-quarter-reads
 use Rattle.words.proofs.word.Reads as word-reads

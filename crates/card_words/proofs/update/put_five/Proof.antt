@@ -1,10 +1,10 @@
 -- `put_five`: a run of five stores.
 -- Assumes nothing.
 use borrow.Author.Needs.{needs}
-use Rattle.card_words.proofs.store.put_five.Statement.{statement}
-use Rattle.card_words.proofs.store.put_five.Tie as tie
-use Rattle.card_words.proofs.store.put_five.Reads as reads
-use Rattle.card_words.proofs.store.put_five.Lts as lts
+use Rattle.card_words.proofs.update.put_five.Statement.{statement}
+use Rattle.card_words.proofs.update.put_five.Tie as tie
+use Rattle.card_words.proofs.update.put_five.Reads as reads
+use Rattle.card_words.proofs.update.put_five.Lts as lts
 use Rattle.words.proofs.put.Reads as put-reads
 
 put-requires : tie.Need-put-requires

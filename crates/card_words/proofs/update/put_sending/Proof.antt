@@ -3,12 +3,12 @@
 use mathlib.Core.Path.{refl}
 use native.Mathlib.Omega.{arith}
 use Rattle.words.proofs.Words.{quartered, halved}
-use Rattle.card_words.proofs.store.Words.{entered-card, sending-by}
+use Rattle.card_words.proofs.update.Words.{entered-card, sending-by}
 use borrow.Author.Needs.{needs}
-use Rattle.card_words.proofs.store.put_sending.Statement.{statement}
-use Rattle.card_words.proofs.store.put_sending.Tie as tie
-use Rattle.card_words.proofs.store.put_sending.Reads as reads
-use Rattle.card_words.proofs.store.put_sending.Lts as lts
+use Rattle.card_words.proofs.update.put_sending.Statement.{statement}
+use Rattle.card_words.proofs.update.put_sending.Tie as tie
+use Rattle.card_words.proofs.update.put_sending.Reads as reads
+use Rattle.card_words.proofs.update.put_sending.Lts as lts
 use Rattle.words.proofs.of_halves.Reads as of-halves-reads
 use Rattle.words.proofs.of_quarters.Reads as of-quarters-reads
 use Rattle.words.proofs.put.Reads as put-reads

@@ -3,13 +3,13 @@
 use mathlib.Core.Path.{refl}
 use native.Mathlib.Omega.{arith}
 use Rattle.words.proofs.Words.{quartered, halved}
-use Rattle.card_words.proofs.store.Words.{headed-card}
+use Rattle.card_words.proofs.update.Words.{headed-card}
 use borrow.Author.Needs.{needs}
-use Rattle.card_words.proofs.store.put_head.Statement.{statement}
-use Rattle.card_words.proofs.store.put_head.Tie as tie
-use Rattle.card_words.proofs.store.put_head.Reads as reads
-use Rattle.card_words.proofs.store.put_head.Lts as lts
-use Rattle.card_words.proofs.store.put_five.Reads as put-five-reads
+use Rattle.card_words.proofs.update.put_head.Statement.{statement}
+use Rattle.card_words.proofs.update.put_head.Tie as tie
+use Rattle.card_words.proofs.update.put_head.Reads as reads
+use Rattle.card_words.proofs.update.put_head.Lts as lts
+use Rattle.card_words.proofs.update.put_five.Reads as put-five-reads
 use Rattle.words.proofs.of_halves.Reads as of-halves-reads
 use Rattle.words.proofs.of_quarters.Reads as of-quarters-reads
 
