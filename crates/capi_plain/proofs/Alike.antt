@@ -4,10 +4,11 @@
 use mathlib.Core.Path.{_≡_, refl, sym, ap, _∙_}
 use mathlib.Core.List.{List, [], _∷_, map}
 use Prim.Native.Nat.{ℕ, _^_, _<_}
-use native.Mathlib.Omega.{arith}
+use lib.ListN.{getD}
 use Rattle.host.specs.declared.Acknowledgement.{Acknowledgement}
 use Rattle.host.specs.declared.Pair.{Pair}
 use Rattle.host.specs.declared.Refusal.{Refusal}
+use Rattle.words.proofs.Words.{part-lt}
 use Rattle.host_words.specs.Words.{pairOf}
 use Rattle.host_words.specs.Describing.{description}
 use Rattle.host_words.proofs.Words.{length-table}
@@ -53,7 +54,7 @@ use Rattle.capi_plain.proofs.Holding.{words-fit, opened-held, received-
 -- any words of 64 bits, as the first host's
 pub typed : (w : List ℕ) → pairOf w .marks < 2 ^ 64 → Typed (pairOf w)
 unfolding pairOf
-typed w h = record { marks-fit = h; closed-fit = omega arith; entries = length-table w }
+typed w h = record { marks-fit = h; closed-fit = part-lt 32 (getD w 2 0) 1; entries = length-table w }
 
 pub words-typed : (w : List ℕ) → Words w → Typed (pairOf w)
 unfolding pairOf

@@ -19,7 +19,8 @@ use Rattle.wire.specs.Writing.{frameHead, ackFrame}
 use Rattle.host.specs.Terms.{agrees, termsRefusal, addressRefusal}
 use Rattle.host.specs.Transactions as transactions
 use Rattle.host.specs.Host as first
-use Rattle.host_words.specs.Words.{entriesFrom, pairOf}
+use Rattle.words.specs.Words.{part, listed}
+use Rattle.host_words.specs.Words.{pairOf}
 use Rattle.host_plain.specs.Plain as plain
 use Rattle.host_equal.specs.Described.{listOf, fromLowest, describe, describePlain}
 use Rattle.capi_plain.specs.Words.{
@@ -111,7 +112,7 @@ abbrev atPlain : List After
 atPlain = each fresh moved
 
 pub host-sequence : Sequence HostDoes (replicate 67 0) before calls atHost
-unfolding Sequence hostShows hostLeaves pairOf entriesFrom first.openedOf first.fresh first.receiveOf
+unfolding Sequence hostShows hostLeaves pairOf part listed first.openedOf first.fresh first.receiveOf
     first.byNumber first.settled first.runFrom first.takeAll first.takeIn first.effect first.accepting
     first.afterFrame first.acknowledgementFrom transactions.verdict transactions.verdictOf transactions.after
     transactions.fills transactions.closedVerdict agrees termsRefusal addressRefusal needed messageHeader addressed
@@ -146,7 +147,7 @@ all-below n some (x ∷ s) e i = go (λ q j. all-below n some s q j) (ltb x n) r
     go ih true z q (suc i) = ih q i
 
 started : describe (pairOf (replicate 67 0)) ≡ describePlain (plainOf (replicate 228 0))
-unfolding describe describePlain fromLowest listOf pairOf entriesFrom plainOf marksFrom entryAt tableOf mark
+unfolding describe describePlain fromLowest listOf pairOf part listed plainOf marksFrom entryAt tableOf mark
 started = refl
 
 words-are : Words (replicate 67 0)

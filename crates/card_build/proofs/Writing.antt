@@ -15,7 +15,7 @@ use Rattle.wire.specs.Writing.{firstMessage, nextMessage}
 use Rattle.card.specs.declared.Card.{Card}
 use Rattle.card.specs.Card.{fits, slotStart, slotOf, messageOf, builtSlot, builtSlots}
 use Rattle.card_words.specs.declared.Head.{Head}
-use Rattle.card_words.specs.Words.{messageHeader as headIs}
+use Rattle.card_words.specs.Words.{headPart}
 use Rattle.card.proofs.Slots.{buffer-long, length-slot, slot-inside, slot-long}
 
 -- the header is that of the message, whatever its data
@@ -53,7 +53,7 @@ module _ (c : Card) (slots : List ℕ) (t at : ℕ) (bytes : List ℕ) (h : Mess
   slot-written e = part-built (rw (start-is, k-is, message-carried c t at bytes h header) at e)
 
   -- the same of what is read of the card's head
-  pub slot-written-by : (b : Head) → b ≡ headIs c → l ≡ cond (eqb (b .used) 0)
+  pub slot-written-by : (b : Head) → b ≡ headPart c → l ≡ cond (eqb (b .used) 0)
       (firstMessage (take k (drop start slots)) (b .peer) (b .own) (b .next .0) (carrying h bytes))
       (nextMessage (take k (drop start slots)) (b .used) (b .last) (carrying h bytes))
       → putMid start k slots l ≡ builtSlots c slots m
