@@ -65,7 +65,8 @@ pub(crate) fn sealed_frame<'a>(words: &[u64], slots: &'a [u8], n: FrameNo) -> &'
 // The refusal of showing a frame, 0 for none.
 pub fn show_refusal(words: &[u64], slots: &[u8], n: FrameNo) -> u8
     ensures { λ r.
-        ⌜ r ≡ orOtherLength (now (words .entry)) (showRefusal (cardOf (now (words .entry))) (now (slots .entry)) (n .0)) ⌝ }
+        ⌜ r
+        ≡ orOtherLength (now (words .entry)) (showRefusal (cardOf (now (words .entry))) (now (slots .entry)) (n .0)) ⌝ }
 {
     if words.len() != card_words::CARD_WORDS {
         return card_words::OTHER_LENGTH;

@@ -201,7 +201,8 @@ verdict-keeps t size m s f e = go (fills o (messageHeader m)) refl
         of : (o ≡ free) ⊎ Underway o → (o .received ≡ 0) ⊎ (o .received < m .count)
         of (inl q) = inl (ap (λ (x : Open). x .received) q)
         of (inr u) =
-            let c = agreed-count o (messageHeader m) (agreeing (t .lowest) (t .closed) o (messageHeader m) (length (m .bytes)) size e)
+            let header = messageHeader m in
+            let c = agreed-count o header (agreeing (t .lowest) (t .closed) o header (length (m .bytes)) size e)
             (λ q. omega (arith, q, u .some-received)) in
             inr (omega (arith, c, u .some-to-come))
 

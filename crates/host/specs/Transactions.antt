@@ -68,7 +68,8 @@ unfoldable pub verdictOf : ℕ → ℕ → Open → MessageHeader → ℕ → �
 verdictOf lowest closed o h len size =
     let d = distance transSpace lowest (h .trans .0) in
     let r = messageRefusal d closed o h len size in
-    cond (eqb r 0) (cond (fills o h) (closedVerdict lowest closed d) (openVerdict lowest closed o h)) (refusedVerdict r lowest closed o)
+    cond (eqb r 0) (cond (fills o h) (closedVerdict lowest closed d) (openVerdict lowest closed o h))
+    (refusedVerdict r lowest closed o)
 
 -- ---- the whole table
 

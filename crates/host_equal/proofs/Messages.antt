@@ -17,7 +17,16 @@ use Rattle.wire.specs.Format.{Message, messageHeader, needed}
 use Rattle.host.specs.declared.Open.{Open}
 use Rattle.host.specs.Terms.{free, agrees, termsRefusal, addressRefusal, firstOf, messageRefusal}
 use Rattle.host.specs.declared.Verdict.{Verdict}
-use Rattle.host.specs.Transactions.{fills, refusedVerdict, closedVerdict, openVerdict, verdictOf, Transactions, verdict, after}
+use Rattle.host.specs.Transactions.{
+  fills,
+  refusedVerdict,
+  closedVerdict,
+  openVerdict,
+  verdictOf,
+  Transactions,
+  verdict,
+  after,
+}
 use Rattle.host.proofs.Judging.{in-window, closes, holds}
 use Rattle.host.specs.Host.{effect, Tally, takeIn, Taken, fine, wrong, takeAll}
 use Rattle.host_plain.specs.declared.PlainTransactions.{PlainTransactions}
@@ -170,7 +179,8 @@ module _ (t : Tally) (fits : t .transactions .closed < 2 ^ 32) (m : Message) whe
   abbrev w : Verdict
   w = verdict (t .transactions) (length (t .memory)) m
 
-  verdict-same : plain.messageRefusal (plainOf (t .transactions)) (messageHeader m) (length (m .bytes)) (length (t .memory))
+  verdict-same : plain.messageRefusal (plainOf (t .transactions)) (messageHeader m) (length (m .bytes))
+      (length (t .memory))
       ≡ w .refusal
   unfolding verdict messageHeader
   verdict-same = refusal-same (t .transactions) fits (messageHeader m) (length (m .bytes)) (length (t .memory))

@@ -42,12 +42,14 @@ module _ (t : Transactions) (size : ℕ) (m : Message) (ok : verdict t size m .r
   abbrev o : Open
   o = getD (t .table) (m .trans % 32) free
 
-  settled : (verdict t size m .done ≡ fills o (messageHeader m)) × (verdict t size m .entry ≡ leftIn o (messageHeader m))
+  settled : (verdict t size m .done ≡ fills o (messageHeader m))
+      × (verdict t size m .entry ≡ leftIn o (messageHeader m))
   unfolding verdict closedVerdict openVerdict
   settled = go (fills o (messageHeader m)) refl
     where
       go : (b : Bool) → fills o (messageHeader m) ≡ b
-          → (verdict t size m .done ≡ fills o (messageHeader m)) × (verdict t size m .entry ≡ leftIn o (messageHeader m))
+          → (verdict t size m .done ≡ fills o (messageHeader m))
+          × (verdict t size m .entry ≡ leftIn o (messageHeader m))
       go true z =
           let e = closes (t .lowest) (t .closed) o (messageHeader m) (length (m .bytes)) size ok z in
           (rw (e, z), rw (e, z))

@@ -13,8 +13,8 @@ abbrev pub wordCount : ℕ
 wordCount = 67
 
 -- The entry that two words hold: completion address and value, count and received.
-abbrev pub openIn : ℕ → ℕ → Open
-openIn terms counts = record {
+abbrev pub entryIn : ℕ → ℕ → Open
+entryIn terms counts = record {
   address = half terms 0;
   value = half terms 1;
   count = quarter counts 0;
@@ -23,7 +23,7 @@ openIn terms counts = record {
 
 -- Entry s of the table.
 abbrev pub entryOf : List ℕ → ℕ → Open
-entryOf w s = openIn (getD w (3 + 2 * s) 0) (getD w (4 + 2 * s) 0)
+entryOf w s = entryIn (getD w (3 + 2 * s) 0) (getD w (4 + 2 * s) 0)
 
 -- The pair that the words hold.
 unfoldable pub pairOf : List ℕ → Pair

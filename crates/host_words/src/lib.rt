@@ -11,7 +11,7 @@ use seq::FrameNo;
 use seq::TransNo;
 ghost use mathlib.Core.Path.{_≡_};
 ghost use Prim.Native.Nat.{_%_};
-ghost use Rattle.host_words.specs.Words.{openIn, entryOf, pairOf};
+ghost use Rattle.host_words.specs.Words.{entryIn, entryOf, pairOf};
 
 // A pair takes words of this length.
 pub const WORDS: usize = 67;
@@ -66,8 +66,8 @@ pub fn closed(w: &[u64]) -> u32
 }
 
 // The entry that two words hold.
-pub fn open_in(terms: u64, counts: u64) -> Open
-    ensures { λ r. ⌜ r ≡ openIn terms counts ⌝ }
+pub fn entry_in(terms: u64, counts: u64) -> Open
+    ensures { λ r. ⌜ r ≡ entryIn terms counts ⌝ }
 {
     Open {
         address: words::half(terms, 0),
@@ -84,5 +84,5 @@ pub fn entry(w: &[u64], number: TransNo) -> Open
     let s = (number.0 % 32) as usize;
     let terms = words::word(w, 3 + 2 * s);
     let counts = words::word(w, 4 + 2 * s);
-    open_in(terms, counts)
+    entry_in(terms, counts)
 }

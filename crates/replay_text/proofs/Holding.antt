@@ -31,7 +31,16 @@ use Rattle.host.specs.declared.Pair.{Pair}
 use Rattle.host.specs.Host.{unchanged, refused, receiveOf}
 use Rattle.host.proofs.TooLong.{too-long}
 use Rattle.replay_text.specs.Text.{answerTo}
-use Rattle.replay_text.specs.Feeding.{Held, within, past, nothingHeld, heldAfterOne, heldAfter, answerHeld, isEmpty}
+use Rattle.replay_text.specs.Feeding.{
+  Held,
+  within,
+  past,
+  nothingHeld,
+  heldAfterOne,
+  heldAfter,
+  answerHeld,
+  isEmpty,
+}
 use Rattle.replay_text.specs.Describing.{heldOf}
 
 -- ---- a character more

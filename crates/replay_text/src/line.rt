@@ -15,7 +15,7 @@ pub struct Totals {
     pub completed: u64,
 }
 
-// The refusal of a line that has ended: 14 where it spells no bytes, then 2 where it spells more than a frame can have; 0 for
+// The refusal of a line that has ended: 14 where it spells no bytes, then 2 where it spells more than FRAME_MOST; 0 for
 // none, and then a host is to be asked.
 pub fn line_refusal(line: Line) -> u8
     ensures { λ r. ⌜ r ≡ lineRefusal line ⌝ }

@@ -29,7 +29,16 @@ use Rattle.bitmap.proofs.Marks.{
 use Rattle.wire.specs.Format.{Message, messageHeader, needed}
 use Rattle.host.specs.declared.Open.{Open}
 use Rattle.host.specs.Terms.{free, agrees, termsRefusal, addressRefusal}
-use Rattle.host.specs.Transactions.{fills, oneReceived, closedVerdict, openVerdict, verdictOf, Transactions, verdict, after}
+use Rattle.host.specs.Transactions.{
+  fills,
+  oneReceived,
+  closedVerdict,
+  openVerdict,
+  verdictOf,
+  Transactions,
+  verdict,
+  after,
+}
 use Rattle.delivery.specs.Book.{MessageRecord, Transaction, noTransaction, allMessagesIn}
 use Rattle.delivery.proofs.Book.Counts.{count, not-full-none}
 

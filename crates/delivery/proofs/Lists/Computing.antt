@@ -123,11 +123,11 @@ use Rattle.delivery.proofs.Lists.Same.{
 use Rattle.delivery.proofs.Lists.Check.{every, below, apart, noByteTwice, writesAllowed, judge, judgedAs}
 
 unfoldable pub computing : Unit {0}
-unfolding distance advance latest mark withMark leading trailingOnes marksOf little value field inside written messageHeader
-    needed nextHeader addressed follows messageAt messagesFrom headingOf readFrame frameHead messageHead laid frameOf
-    ackFrame roomFor firstMessage nextMessage agrees termsRefusal addressRefusal fills refusedVerdict closedVerdict openVerdict
-    verdictOf verdict after fresh openedOf effect takeIn takeAll settled runFrom afterFrame accepting byNumber receiveOf
-    acknowledgementFrom emptyWindow held beforeHeld sealing acknowledgedBy releasing acknowledging noSendings
+unfolding distance advance latest mark withMark leading trailingOnes marksOf little value field inside written
+    messageHeader needed nextHeader addressed follows messageAt messagesFrom headingOf readFrame frameHead messageHead laid
+    frameOf ackFrame roomFor firstMessage nextMessage agrees termsRefusal addressRefusal fills refusedVerdict closedVerdict
+    openVerdict verdictOf verdict after fresh openedOf effect takeIn takeAll settled runFrom afterFrame accepting byNumber
+    receiveOf acknowledgementFrom emptyWindow held beforeHeld sealing acknowledgedBy releasing acknowledging noSendings
     openingRefusal opening takes adding allReleased finishedBy passing finishing freshCard fits cardRefusal openCard
     openTransaction addRefusal messageOf builtSlot builtSlots withMessage addMessage sealRefusal sealFrame acknowledged
     readAcks frameIn showRefusal showFrame chooseRefusal chooseNext byCard acksFor byHost step run initial messagesIn

@@ -57,7 +57,8 @@ module _ (lowest closed least : ℕ) (o : Option (List ℕ)) where
     pub bad-line : t ≡ false → badLine ≡ lineOf lowest closed least o
     bad-line z = rw (e, tested, z)
 
-    pub good-line : t ≡ true → record { fine = true; number = record { 0 = number }; entry = entry } ≡ lineOf lowest closed least o
+    pub good-line : t ≡ true
+        → record { fine = true; number = record { 0 = number }; entry = entry } ≡ lineOf lowest closed least o
     unfolding numbersFrom
     good-line z = rw (e, tested, z, n, p)
 
@@ -119,7 +120,8 @@ from-bad lowest closed least table (some xs) none l e f = refl
 from-bad lowest closed least table (some xs) (some lines) l e f =
     go (openFine lowest closed least (numberIn xs) (openIn xs)) e
   where
-    go : (b : Bool) → l ≡ cond b (record { fine = true; number = record { 0 = numberIn xs }; entry = openIn xs }) badLine
+    go : (b : Bool)
+        → l ≡ cond b (record { fine = true; number = record { 0 = numberIn xs }; entry = openIn xs }) badLine
         → cond (b && opensFine lowest closed (suc (distance transSpace lowest (numberIn xs))) lines)
         (record { fine = true; table = tableFrom table (xs ∷ lines) }) badLines ≡ badLines
     go true w =

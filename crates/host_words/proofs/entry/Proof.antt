@@ -5,7 +5,7 @@ use Rattle.host_words.proofs.entry.Statement.{statement}
 use Rattle.host_words.proofs.entry.Tie as tie
 use Rattle.host_words.proofs.entry.Reads as reads
 use Rattle.host_words.proofs.entry.Lts as lts
-use Rattle.host_words.proofs.open_in.Reads as open-in-reads
+use Rattle.host_words.proofs.entry_in.Reads as entry-in-reads
 use Rattle.words.proofs.word.Reads as word-reads
 
 cast-s : tie.Need-cast-s
@@ -29,11 +29,11 @@ add-word-2 c = search needs
 word-requires-2 : tie.Need-word-requires-2
 word-requires-2 c κs = search needs
 
-open-in-requires : tie.Need-open-in-requires
-open-in-requires c κs = search needs
+entry-in-requires : tie.Need-entry-in-requires
+entry-in-requires c κs = search needs
 
 returns : tie.Need-returns
-returns c = rw (c .before .word2 .ensures, c .before .before .word .ensures) at (c .open-in .ensures)
+returns c = rw (c .before .word2 .ensures, c .before .before .word .ensures) at (c .entry-in .ensures)
 
 pub entry-spec : {M : Type 1} → statement M
 entry-spec =
@@ -46,5 +46,5 @@ entry-spec =
     mul-word-2
     add-word-2
     word-requires-2
-    open-in-requires
+    entry-in-requires
     returns)

@@ -12,13 +12,13 @@ use Rattle.words.proofs.Words.{quartered, halved}
 use Rattle.words.proofs.Listed.{listed-same, listed-set}
 use Rattle.host.specs.declared.Open.{Open}
 use Rattle.host_words.specs.declared.Head.{Head}
-use Rattle.host_words.specs.Words.{openIn, entryOf, pairOf, headPart, joined}
+use Rattle.host_words.specs.Words.{entryIn, entryOf, pairOf, headPart, joined}
 use Rattle.host_words.specs.Updating.{withEntry, withHead, HoldsEntry}
 
 -- ---- the two words of an entry
 
 open-same : (o : Open) → o .address < 4294967296 → o .value < 4294967296 → o .count < 65536 → o .received < 65536
-    → openIn (ofHalves (o .address) (o .value)) (ofQuarters (o .count) (o .received) 0 0) ≡ o
+    → entryIn (ofHalves (o .address) (o .value)) (ofQuarters (o .count) (o .received) 0 0) ≡ o
 open-same o a b c d =
     let h = halved (o .address) (o .value) a b in
     let q = quartered (o .count) (o .received) 0 0 c d (omega arith) (omega arith) in
@@ -50,7 +50,7 @@ module _ (w : List ℕ) (s : ℕ) (o : Open) (l : length w ≡ 67) (h : s < 32) 
   other-word j a b =
       getD-set-other (set w (3 + 2 * s) terms) (4 + 2 * s) j counts 0 b ∙ getD-set-other w (3 + 2 * s) j terms 0 a
 
-  module _ (its : openIn terms counts ≡ o) where
+  module _ (its : entryIn terms counts ≡ o) where
     table-set : listed (entryOf stored) 0 32 ≡ set (listed (entryOf w) 0 32) s o
     table-set =
         listed-set (entryOf w) (entryOf stored) o 32 s h (rw (its-terms, its-counts) its)

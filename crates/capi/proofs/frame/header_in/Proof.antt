@@ -2,7 +2,7 @@
 -- Assumes nothing.
 use mathlib.Core.Path.{sym, _∙_}
 use Rattle.wire_read.specs.Finding.{headerOf}
-use Rattle.capi.specs.Numbers.{layoutIn, headerIn}
+use Rattle.capi.specs.Numbers.{headerIn}
 use borrow.Author.Needs.{needs}
 use Rattle.capi.proofs.frame.header_in.Statement.{statement}
 use Rattle.capi.proofs.frame.header_in.Tie as tie
@@ -26,7 +26,8 @@ enum-told-2 c = search needs
 returns : tie.Need-returns
 unfolding headerIn headerOf
 returns c =
-    rw (sym (c .before .before .before .layout-of .ensures) ∙ c .enum-told .given .1) (c .before .before .frame-header .ensures)
+    rw (sym (c .before .before .before .layout-of .ensures) ∙ c .enum-told .given .1)
+    (c .before .before .frame-header .ensures)
 
 returns-2 : tie.Need-returns-2
 unfolding headerIn

@@ -34,7 +34,8 @@ put-acknowledgement-requires c κs = search needs
 returns : tie.Need-returns
 returns c =
     let k = c .before .before in
-    let e = rw (k .before .unpack .ensures, k .before .before .before .answer-of .ensures) at (k .acknowledge-by-value .ensures) in
+    let a = k .before .before .before .answer-of .ensures in
+    let e = rw (k .before .unpack .ensures, a) at (k .acknowledge-by-value .ensures) in
     rw e at (c .put-acknowledgement .ensures)
 
 pub lw-raw-host-acknowledge-by-value-spec : {M : Type 1} → statement M

@@ -27,7 +27,8 @@ inside : (d closed : ℕ) (o : Open) (h : MessageHeader) (len : ℕ) (shut same 
     → same ≡ agrees o h → carries ≡ (eqb (h .count) 0 && ltb 0 len) → d < 32
     → cond shut 8 (cond (not same) 9 (cond carries 10 0)) ≡ termsRefusal d closed o h len
 unfolding termsRefusal
-inside d closed o h len shut same carries shut-is same-is carries-is l = rw (lt-leb 32 d l, shut-is, same-is, carries-is)
+inside d closed o h len shut same carries shut-is same-is carries-is l =
+    rw (lt-leb 32 d l, shut-is, same-is, carries-is)
 
 returns : tie.Need-returns
 returns c = outside _ _ _ _ _ (c .if1 .taken)

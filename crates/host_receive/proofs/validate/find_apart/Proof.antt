@@ -109,7 +109,8 @@ refused-at-requires-4 c κs = search needs
 returns-4 : tie.Need-returns-4 Inv-loop μ-loop
 returns-4 c =
     let judged = c .before .before .before in
-    let looped = judged .before .before .before .before .before .before .before .before .before .before in
+    let entered = judged .before .before .before .before .before in
+    let looped = entered .before .before .before .before .before in
     let k = looped .loop .inv in
     let seen = judged .before .before .before .before .before .before .before in
     let x = is-whole (sym (seen .before .before .message-at .ensures) ∙ seen .found .given .1) in
@@ -134,7 +135,8 @@ passed-requires c κs = search needs
 returns-5 : tie.Need-returns-5 Inv-loop μ-loop
 returns-5 c =
     let judged = c .before .before .before .before .before .before in
-    let looped = judged .before .before .before .before .before .before .before .before .before .before in
+    let entered = judged .before .before .before .before .before in
+    let looped = entered .before .before .before .before .before in
     let k = looped .loop .inv in
     let seen = judged .before .before .before .before .before .before .before in
     let x = is-whole (sym (seen .before .before .message-at .ensures) ∙ seen .found .given .1) in
@@ -150,12 +152,14 @@ loop-less c =
     let judged = c .before .before .before .before .before in
     let seen = judged .before .before .before .before .before .before .before in
     let x = is-whole (sym (seen .before .before .message-at .ensures) ∙ seen .found .given .1) in
-    omega (arith, judged .before .before .before .before .before .before .before .before .before .before .loop .inv .0, x)
+    let entered = judged .before .before .before .before .before in
+    omega (arith, entered .before .before .before .before .before .loop .inv .0, x)
 
 loop-again : tie.Need-loop-again Inv-loop μ-loop
 loop-again c =
     let judged = c .before .before .before .before .before in
-    let looped = judged .before .before .before .before .before .before .before .before .before .before in
+    let entered = judged .before .before .before .before .before in
+    let looped = entered .before .before .before .before .before in
     let k = looped .loop .inv in
     let seen = judged .before .before .before .before .before .before .before in
     let x = is-whole (sym (seen .before .before .message-at .ensures) ∙ seen .found .given .1) in

@@ -58,8 +58,8 @@ returns c =
     ∙ rw (first .put .ensures, made .of-quarters .ensures, made .before .of-halves .ensures) in (
       e,
       λ l. rw e
-          (holds-entry (a .w .now) (a .number .0 % 32) (a .o) (omega arith) (omega (arith, g)) (omega (arith, g)) (omega (arith, g))
-          (omega (arith, g)) l),
+          (holds-entry (a .w .now) (a .number .0 % 32) (a .o) (omega arith) (omega (arith, g)) (omega (arith, g))
+          (omega (arith, g)) (omega (arith, g)) l),
     )
 
 pub put-entry-spec : {M : Type 1} → statement M

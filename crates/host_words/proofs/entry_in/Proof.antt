@@ -1,10 +1,10 @@
--- `host_words::open_in`: each field is the definition's.
+-- `host_words::entry_in`: each field is the definition's.
 -- Assumes nothing.
 use borrow.Author.Needs.{needs}
-use Rattle.host_words.proofs.open_in.Statement.{statement}
-use Rattle.host_words.proofs.open_in.Tie as tie
-use Rattle.host_words.proofs.open_in.Reads as reads
-use Rattle.host_words.proofs.open_in.Lts as lts
+use Rattle.host_words.proofs.entry_in.Statement.{statement}
+use Rattle.host_words.proofs.entry_in.Tie as tie
+use Rattle.host_words.proofs.entry_in.Reads as reads
+use Rattle.host_words.proofs.entry_in.Lts as lts
 use Rattle.words.proofs.half.Reads as half-reads
 use Rattle.words.proofs.quarter.Reads as quarter-reads
 
@@ -29,6 +29,6 @@ returns c =
       c .quarter2 .ensures,
     )
 
-pub open-in-spec : {M : Type 1} → statement M
-open-in-spec =
+pub entry-in-spec : {M : Type 1} → statement M
+entry-in-spec =
     tie.close (tie.spec half-requires half-requires-2 quarter-requires quarter-requires-2 returns)
