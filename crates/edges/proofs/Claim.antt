@@ -37,10 +37,10 @@ use Rattle.card.specs.Card.{
 use Rattle.edges.specs.Edges.{Case, added, result, cases}
 
 pub edges-hold : map (λ (c : Case). result (c .edge)) cases ≡ map (λ (c : Case). c .answer) cases
-unfolding distance advance mark withMark leading trailingOnes little value field inside written messageHeader nextHeader
-    addressed follows messageAt messagesFrom headingOf readFrame frameHead messageHead laid frameOf needed agrees
-    termsRefusal addressRefusal fills refusedVerdict closedVerdict openVerdict verdictOf verdict after effect takeIn
-    takeAll settled runFrom afterFrame accepting byNumber receiveOf emptyWindow noSendings openingRefusal opening takes adding
-    freshCard fits openTransaction addRefusal roomFor firstMessage nextMessage messageOf builtSlot builtSlots withMessage
-    addMessage added
+unfolding distance advance mark withMark leading trailingOnes little value field inside written messageHeader
+    nextHeader addressed follows messageAt messagesFrom headingOf readFrame frameHead messageHead laid frameOf needed
+    agrees termsRefusal addressRefusal fills refusedVerdict closedVerdict openVerdict verdictOf verdict after effect
+    takeIn takeAll settled runFrom afterFrame accepting byNumber receiveOf emptyWindow noSendings openingRefusal
+    opening takes adding freshCard fits openTransaction addRefusal roomFor firstMessage nextMessage messageOf
+    builtSlot builtSlots withMessage addMessage added
 edges-hold = refl

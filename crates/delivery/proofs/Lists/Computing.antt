@@ -124,17 +124,18 @@ use Rattle.delivery.proofs.Lists.Check.{every, below, apart, noByteTwic
 
 unfoldable pub computing : Unit {0}
 unfolding distance advance latest mark withMark leading trailingOnes marksOf little value field inside written
-    messageHeader needed nextHeader addressed follows messageAt messagesFrom headingOf readFrame frameHead messageHead laid
-    frameOf ackFrame roomFor firstMessage nextMessage agrees termsRefusal addressRefusal fills refusedVerdict closedVerdict
-    openVerdict verdictOf verdict after fresh openedOf effect takeIn takeAll settled runFrom afterFrame accepting byNumber
-    receiveOf acknowledgementFrom emptyWindow held beforeHeld sealing acknowledgedBy releasing acknowledging noSendings
-    openingRefusal opening takes adding allReleased finishedBy passing finishing freshCard fits cardRefusal openCard
-    openTransaction addRefusal messageOf builtSlot builtSlots withMessage addMessage sealRefusal sealFrame acknowledged
-    readAcks frameIn showRefusal showFrame chooseRefusal chooseNext byCard acksFor byHost step run initial messagesIn
-    ofTransaction allMessagesIn complete finished unfinishedFrom unfinished perform dataWrites completionWrite writesOf
-    bookWrites bookMemory serialWrites serialMemory dataBytes completeCount newlyComplete enterOpening enterMessage
-    enterSealing changeAt markWhere enterAck acceptedRun enterHandOut enterArrival enterNoEffect enterDelivery shown
-    chosen enter bookFrom emptyBook typed allTyped frameInTime ackInTime inTime notTooLate seenAs numberedAs copyOf
-    saysAccepted timesAccepted sumOver neededBy bytesBy every below apart noByteTwice writesAllowed judge
-    sameAll messageCode transactionCode handOutCode rangeCode expectedCode sameBool sameFrame sameBook judgedAs
+    messageHeader needed nextHeader addressed follows messageAt messagesFrom headingOf readFrame frameHead messageHead
+    laid frameOf ackFrame roomFor firstMessage nextMessage agrees termsRefusal addressRefusal fills refusedVerdict
+    closedVerdict openVerdict verdictOf verdict after fresh openedOf effect takeIn takeAll settled runFrom afterFrame
+    accepting byNumber receiveOf acknowledgementFrom emptyWindow held beforeHeld sealing acknowledgedBy releasing
+    acknowledging noSendings openingRefusal opening takes adding allReleased finishedBy passing finishing freshCard
+    fits cardRefusal openCard openTransaction addRefusal messageOf builtSlot builtSlots withMessage addMessage
+    sealRefusal sealFrame acknowledged readAcks frameIn showRefusal showFrame chooseRefusal chooseNext byCard acksFor
+    byHost step run initial messagesIn ofTransaction allMessagesIn complete finished unfinishedFrom unfinished perform
+    dataWrites completionWrite writesOf bookWrites bookMemory serialWrites serialMemory dataBytes completeCount
+    newlyComplete enterOpening enterMessage enterSealing changeAt markWhere enterAck acceptedRun enterHandOut
+    enterArrival enterNoEffect enterDelivery shown chosen enter bookFrom emptyBook typed allTyped frameInTime
+    ackInTime inTime notTooLate seenAs numberedAs copyOf saysAccepted timesAccepted sumOver neededBy bytesBy every
+    below apart noByteTwice writesAllowed judge sameAll messageCode transactionCode handOutCode rangeCode expectedCode
+    sameBool sameFrame sameBook judgedAs
 computing = tt

@@ -77,7 +77,8 @@ same-length-6 : tie.Need-same-length-6 Inv-loop μ-loop
 same-length-6 c =
     let taken = c .before .before .before .before .before in
     let lent = taken .before .before .before .before .before in
-    let begun = lent .before .before .before .before .before .before .before .before .before .before .before in
+    let entered = lent .before .before .before .before .before .before in
+    let begun = entered .before .before .before .before .before in
     taken .take-piece .kept .1 .1 .1 .1 .1 .0 ∙ begun .loop .inv .1
 
 returns-3 : tie.Need-returns-3 Inv-loop μ-loop
@@ -97,7 +98,8 @@ same-length-8 : tie.Need-same-length-8 Inv-loop μ-loop
 same-length-8 c =
     let taken = c .before .before .before .before .before .before .before .before in
     let lent = taken .before .before .before .before .before in
-    let begun = lent .before .before .before .before .before .before .before .before .before .before .before in
+    let entered = lent .before .before .before .before .before .before in
+    let begun = entered .before .before .before .before .before in
     taken .take-piece .kept .1 .1 .1 .1 .1 .0 ∙ begun .loop .inv .1
 
 returns-4 : tie.Need-returns-4 Inv-loop μ-loop
@@ -107,7 +109,8 @@ loop-less : tie.Need-loop-less Inv-loop μ-loop
 loop-less c =
     let taken = c .before .before .before .before .before .before .before .before in
     let lent = taken .before .before .before .before .before in
-    let begun = lent .before .before .before .before .before .before .before .before .before .before in
+    let entered = lent .before .before .before .before .before in
+    let begun = entered .before .before .before .before .before in
     omega (arith, begun .loop-test .taken)
 
 loop-again : tie.Need-loop-again Inv-loop μ-loop

@@ -126,7 +126,8 @@ marked-requires c κs = search needs
 counted-requires : tie.Need-counted-requires Inv-loop μ-loop
 counted-requires c κs =
     let judged = c .before .before .before in
-    let k = judged .before .before .before .before .before .before .before .before .before .before .loop .inv .0 in
+    let entered = judged .before .before .before .before .before in
+    let k = entered .before .before .before .before .before .loop .inv .0 in
     (omega (arith, k), omega (arith, k), omega (arith, k))
 
 passed-requires : tie.Need-passed-requires Inv-loop μ-loop
