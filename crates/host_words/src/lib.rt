@@ -66,7 +66,7 @@ pub fn closed(w: &[u64]) -> u32
 }
 
 // The entry that two words hold.
-pub fn entry_in(terms: u64, counts: u64) -> Open
+pub(crate) fn entry_in(terms: u64, counts: u64) -> Open
     ensures { λ r. ⌜ r ≡ entryIn terms counts ⌝ }
 {
     Open {
