@@ -1,10 +1,10 @@
 #!/usr/bin/env python3
 """Makes the pictures of this folder: the frame format, the windows, the lives of frames and transactions, a frame's
-journey, the crates.
+journey, a table of cards, the crates.
 
-`make.py` writes them; `make.py --check` writes nothing and exits with 1 where a stored picture is not the one made here.
-Crates and floors are read from crates.txt; a name that begins with no word of its floor, and a crate that sees what is not
-below it, is an error.
+`make.py` writes them; `make.py --check` writes nothing and exits with 1 where a stored picture is not the one made
+here. Crates and floors are read from crates.txt; a name that begins with no word of its floor, and a crate that sees
+what is not below it, is an error.
 """
 import math
 import pathlib
@@ -656,21 +656,76 @@ def draw_journey():
     return p
 
 
+# ---- a table of cards
+
+# Of three cards: the ID, and the first byte and the length of its region, in a memory of 1,000 bytes.
+CARDS = [(2, 0, 300, BLUE), (7, 300, 250, GREEN), (3, 650, 200, AMBER)]
+MEMORY = 1000
+
+
+def table_words(p, x, y):
+    """The words of a table, not to scale: our ID, sources, first bytes, lengths, and one pair for each place."""
+    p.text(x, y - 24, "the table: 1,121 words that the caller lends", 13, "start", bold=True)
+    columns = [("ID", 44, "1"), ("16 sources", 96, "16"), ("16 first bytes", 116, "16"), ("16 lengths", 100, "16")]
+    for name, wide, size in columns:
+        p.rect(x, y, wide, 46, GREY)
+        p.text(x + wide / 2, y + 20, name, 12)
+        p.text(x + wide / 2, y + 38, f"{size} word{'s' * (size != '1')}", 10, colour=SOFT)
+        x += wide
+    centres = []
+    for source, _, _, fill in CARDS:
+        p.rect(x, y, 112, 46, fill)
+        p.text(x + 56, y + 20, f"pair of card {source}", 12)
+        p.text(x + 56, y + 38, "67 words", 10, colour=SOFT)
+        centres.append(x + 56)
+        x += 112
+    p.rect(x, y, 188, 46, "#ffffff", RULE, dash="4 3")
+    p.text(x + 94, y + 20, "13 free places", 12, colour=SOFT)
+    p.text(x + 94, y + 38, "67 words each, all 0", 10, colour=SOFT)
+    return centres
+
+
+def table_memory(p, x, y, unit):
+    """The memory with the cards' regions to scale."""
+    p.text(x, y + 84, "one memory, lent to each call", 13, "start", bold=True)
+    p.rect(x, y, MEMORY * unit, 46, "#ffffff", RULE)
+    p.text(x + 600 * unit, y + 28, "no card's", 11, colour=SOFT)
+    p.text(x + 925 * unit, y + 28, "no card's", 11, colour=SOFT)
+    for source, first, size, fill in CARDS:
+        p.rect(x + first * unit, y, size * unit, 46, fill)
+        p.text(x + (first + size / 2) * unit, y + 20, f"region of card {source}", 12)
+        p.text(x + (first + size / 2) * unit, y + 38, f"{size} bytes", 10, colour=SOFT)
+        p.text(x + first * unit, y + 60, f"byte {first} is its address 0", 11, "start", SOFT)
+
+
+def draw_table():
+    p = Picture("table.svg", 960, 330, "A table of cards: the words of a table, and the regions of one memory")
+    x, unit = 30, 0.9
+    centres = table_words(p, x, 60)
+    table_memory(p, x, 220, unit)
+    for (_, first, size, _), centre in zip(CARDS, centres):
+        p.line(centre, 106, x + (first + size / 2) * unit, 219, arrow=True)
+    p.text(x, 150, "A frame from card 7 changes only", 12, "start", SOFT)
+    p.text(x, 168, "its pair and its region.", 12, "start", SOFT)
+    return p
+
+
 # ---- the house
 
 KIT = "kit"
 # Of each floor its colour and where it is drawn: left, right, row from above. A row is as high as its fullest floor.
 FLOORS = {
-    "program": (ROSE, 30, 480, 0), "C": (TEAL, 520, 970, 0), "face": (TEAL, 30, 970, 1), "above": (ROSE, 30, 480, 2),
-    "theorem": (VIOLET, 520, 970, 2), "host": (AMBER, 30, 480, 3), "card": (GREEN, 520, 970, 3), "wire": (BLUE, 30, 970, 4),
-    "ground": (GREY, 30, 700, 5), KIT: ("#ffffff", 740, 970, 5),
+    "program": (ROSE, 30, 480, 0), "C": (TEAL, 520, 970, 0), "face": (TEAL, 30, 970, 1), "theorem": (VIOLET, 30, 970, 2),
+    "above": (ROSE, 30, 660, 3), "host": (AMBER, 30, 480, 4), "card": (GREEN, 520, 970, 4), "wire": (BLUE, 30, 970, 5),
+    "ground": (GREY, 30, 700, 6), KIT: ("#ffffff", 740, 970, 6),
 }
 # The two ends do not see each other, though one stands before the other in crates.txt.
 APART = {"host", "card"}
 # The handful of arrows, each from a floor to one that it stands on, and the x at which it is drawn; floors beside each
 # other are joined from edge to edge.
-STANDS = [("program", "face", None), ("C", "face", 745), ("face", "above", 255), ("face", "theorem", 745), ("above", "host", 255),
-          ("theorem", "card", 745), ("host", "wire", 255), ("card", "wire", 745), ("wire", "ground", 345), ("ground", KIT, None)]
+STANDS = [("program", "face", None), ("C", "face", 745), ("face", "theorem", None), ("theorem", "above", 255),
+          ("above", "host", 255), ("theorem", "card", 815), ("host", "wire", 255), ("card", "wire", 745),
+          ("wire", "ground", 345), ("ground", KIT, None)]
 HEADING = re.compile(r"## ((\w+)[\w ]*?)(?: \[([\w ]+)\])?: (.+)")
 
 
@@ -746,8 +801,6 @@ def draw_crates(found, titles):
                 p.text(x + wide / 2, top[level] + 51 + 36 * i, name, 13, mono=True)
     for above, below, x in STANDS:
         draw_stand(p, FLOORS[above], FLOORS[below], x, top, high)
-    # the theorem stands on the host too, which lies to its left
-    p.path(f"M520 {num(top[2] + high[2] / 2)}H500V{num(top[3] + high[3] / 2)}H481", arrow=True)
     return p
 
 
@@ -768,7 +821,7 @@ def draw_stand(p, above, below, x, top, high):
 
 
 def pictures():
-    return [draw_frame(), draw_windows(), draw_lives(), draw_journey(), draw_crates(*read_crates())]
+    return [draw_frame(), draw_windows(), draw_lives(), draw_journey(), draw_table(), draw_crates(*read_crates())]
 
 
 def check(made):

@@ -12,7 +12,7 @@ ghost use Rattle.host_receive.specs.Counting.{runAt};
 ghost use Rattle.host_receive.specs.Refusing.{refusedWith, numberAnswered};
 
 // Refused, with the number and the place.
-pub(crate) fn refusing(number: u8, place: u32) -> Answer
+pub fn refusing(number: u8, place: u32) -> Answer
     ensures { λ r. ⌜ r ≡ refused number place ⌝ }
 {
     Answer::Refused(Refusal { number, place })

@@ -1,5 +1,5 @@
 -- What the library's functions answer and leave, said by the very ends that the theorem of delivery is about: each line
--- is a field of `specifiedHost`, `specifiedCard` or `specifiedStore`, on the pair or the card that the lent words hold.
+-- is a field of `specifiedHost`, `specifiedCard`, `specifiedStore` or `specifiedTable`, on what the lent words hold.
 use Prim.Native.Nat.{ℕ}
 use mathlib.Core.Path.{_≡_}
 use mathlib.Core.Logic.{_≢_}
@@ -7,12 +7,16 @@ use mathlib.Core.List.{List, []}
 use Rattle.host.specs.declared.Answer.{Answer}
 use Rattle.host.specs.declared.Opened.{Opened}
 use Rattle.host.specs.declared.Acknowledgement.{Acknowledgement}
-use Rattle.host.specs.Host.{Received}
+use Rattle.host.specs.Host.{Received, acknowledgementFrom}
 use Rattle.host_words.specs.Words.{pairOf}
 use Rattle.card_words.specs.Words.{cardOf}
 use Rattle.host_stored.specs.declared.Stored.{Stored}
 use Rattle.delivery.specs.System.{CardResult, specifiedCard, specifiedHost}
 use Rattle.delivery_restarts.specs.Restarts.{specifiedStore}
+use Rattle.table.specs.Table.{TableStep, TableReceived}
+use Rattle.table.specs.Adopting.{TakenOut}
+use Rattle.table.specs.TableEnd.{specifiedTable}
+use Rattle.table_words.specs.TableWords.{tableOf}
 
 -- ---- the host
 
@@ -63,3 +67,28 @@ frameShown words slots number = specifiedCard .showing (cardOf words) slots numb
 
 abbrev pub nextChosen : List ℕ → List ℕ → List ℕ → CardResult
 nextChosen words slots ack = specifiedCard .choosing (cardOf words) slots ack
+
+-- ---- a table of cards
+
+abbrev pub tableOpened : ℕ → TableStep
+tableOpened own = specifiedTable .opening own
+
+abbrev pub cardRegistered : List ℕ → ℕ → ℕ → ℕ → ℕ → TableStep
+cardRegistered words source first size memory = specifiedTable .registering (tableOf words) source first size memory
+
+abbrev pub cardRemoved : List ℕ → ℕ → TableStep
+cardRemoved words source = specifiedTable .removing (tableOf words) source
+
+abbrev pub receivedAtTable : List ℕ → List ℕ → List ℕ → TableReceived
+receivedAtTable words frame memory = specifiedTable .receiving (tableOf words) frame memory
+
+-- To the source that is given; where that is a frame's own, it is the acknowledging of `specifiedTable`.
+abbrev pub cardAcknowledgement : List ℕ → ℕ → Answer → ℕ → Acknowledgement
+cardAcknowledgement words source answer number = acknowledgementFrom (tableOf words .own) source answer number
+
+abbrev pub cardTaken : List ℕ → ℕ → TakenOut
+cardTaken words source = specifiedTable .taking (tableOf words) source
+
+abbrev pub cardAdopted : List ℕ → List ℕ → ℕ → ℕ → ℕ → TableStep
+cardAdopted words host first size memory =
+    specifiedTable .adopting (tableOf words) (pairOf host) first size memory

@@ -61,11 +61,21 @@ pub const BAD_LIMIT_OR_SLOTS: u8 = 26;
 
 pub const DATA_FOR_BARE: u8 = 27;
 
+// ---- of a table of cards, without a class
+
+pub const TABLE_FULL: u8 = 28;
+
+pub const REGION_OVERLAPS: u8 = 29;
+
+pub const SOURCE_REGISTERED: u8 = 30;
+
+pub const REGION_OUTSIDE_MEMORY: u8 = 31;
+
 // ---- of no class: a replay from fragments
 
 pub const REPLAY_CLOSED: u8 = 17;
 
-// Other is the class of all other numbers: 15, 17 and 19 among them.
+// Other is the class of all other numbers: 15, 17, 19 and 28 to 31 among them.
 pub enum Class {
     Wire,
     Message,

@@ -1,0 +1,5 @@
+pub mod PerCard
+pub mod Bill
+pub mod Restarts
+pub mod OverRestarts
+pub mod WholeTable

@@ -1,0 +1,17 @@
+pub mod Hosting
+pub mod Regions
+pub mod Places
+pub mod Reachable
+pub mod Receiving
+pub mod View
+pub mod Calls
+pub mod Holding
+pub mod Pairs
+pub mod Isolation
+pub mod Outside
+pub mod Lookups
+pub mod Adopting
+pub mod Reopening
+pub mod Worked
+pub mod Wrong
+pub mod Premises

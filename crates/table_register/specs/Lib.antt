@@ -1,0 +1,2 @@
+pub mod TableChanging
+pub mod TableAdopting
