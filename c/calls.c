@@ -1,6 +1,6 @@
 /*
- * Drives a card and a host by lines from standard input, one call each, and writes
- * every answer: for trying a sequence by hand, and for comparing the library with
+ * Drives a card, a host and a table by lines from standard input, one call each, and
+ * writes every answer: for trying a sequence by hand, and for comparing the library with
  * an independent program. It is built over the installed header, so that what is
  * compared goes the way that users go.
  *
@@ -36,7 +36,8 @@ struct program {
     lw_card card;
     struct buffer slots;
     lw_host host;
-    struct buffer memory;
+    lw_table table;
+    struct buffer memory; /* of host and table */
     struct buffer text; /* the latest buffer to store in */
     uint8_t bytes[LONGEST_LINE / 2]; /* those of the line's last word */
     char line[LONGEST_LINE];
@@ -330,6 +331,17 @@ static void put_answer(const lw_answer *answer)
     }
 }
 
+/* The answer to a frame, with the acknowledgement that is due, if one is. */
+static void put_received(const lw_answer *answer, uint32_t due, const uint8_t *acknowledgement)
+{
+    put_answer(answer);
+    if (due == 1) {
+        printf(" ack ");
+        put_bytes(acknowledgement, LW_ACKNOWLEDGEMENT);
+    }
+    putchar('\n');
+}
+
 static bool call_receive(struct program *program, const struct word *words)
 {
     uint8_t acknowledgement[LW_ACKNOWLEDGEMENT];
@@ -340,12 +352,8 @@ static bool call_receive(struct program *program, const struct word *words)
         return false;
     lw_host_receive(&program->host, program->bytes, length, program->memory.start,
                     program->memory.size, &answer);
-    put_answer(&answer);
-    if (lw_host_acknowledge(&program->host, &answer, 0, acknowledgement) == 1) {
-        printf(" ack ");
-        put_bytes(acknowledgement, sizeof acknowledgement);
-    }
-    putchar('\n');
+    put_received(&answer, lw_host_acknowledge(&program->host, &answer, 0, acknowledgement),
+                 acknowledgement);
     return true;
 }
 
@@ -376,6 +384,118 @@ static bool call_restore(struct program *program, const struct word *words)
     if (!read_bytes(words[0], program->bytes, &length))
         return false;
     put_done(lw_host_restore(&program->host, program->bytes, length));
+    return true;
+}
+
+static bool call_table(struct program *program, const struct word *words)
+{
+    uint32_t own, size;
+
+    if (!read_number(words[0], UINT16_MAX, &own) || !read_number(words[1], MOST_MEMORY, &size))
+        return false;
+    renew(&program->memory, size, 0);
+    put_done(lw_table_open(&program->table, (uint16_t)own));
+    return true;
+}
+
+/* A region's first byte and its length, and the length of a memory. */
+static bool read_region(const struct word *words, size_t region[3])
+{
+    for (size_t i = 0; i < 3; i++) {
+        uint64_t value;
+        if (!read_wide(words[i], &value) || value > SIZE_MAX)
+            return false;
+        region[i] = (size_t)value;
+    }
+    return true;
+}
+
+static bool call_register(struct program *program, const struct word *words)
+{
+    uint32_t source;
+    size_t region[3];
+
+    if (!read_number(words[0], UINT16_MAX, &source) || !read_region(words + 1, region))
+        return false;
+    put_done(lw_table_register(&program->table, (uint16_t)source, region[0], region[1],
+                               region[2]));
+    return true;
+}
+
+static bool call_remove(struct program *program, const struct word *words)
+{
+    uint32_t source;
+
+    if (!read_number(words[0], UINT16_MAX, &source))
+        return false;
+    put_done(lw_table_remove(&program->table, (uint16_t)source));
+    return true;
+}
+
+static bool call_deliver(struct program *program, const struct word *words)
+{
+    uint8_t acknowledgement[LW_ACKNOWLEDGEMENT];
+    size_t length;
+    uint64_t lent;
+    uint16_t source;
+    lw_answer answer;
+
+    if (!read_wide(words[0], &lent) || !read_bytes(words[1], program->bytes, &length))
+        return false;
+    if (lent > program->memory.size)
+        lent = program->memory.size;
+    lw_table_receive(&program->table, program->bytes, length, program->memory.start, (size_t)lent,
+                     &source, &answer);
+    put_received(&answer,
+                 lw_table_acknowledge(&program->table, source, &answer, 0, acknowledgement),
+                 acknowledgement);
+    return true;
+}
+
+static bool call_take(struct program *program, const struct word *words)
+{
+    uint32_t source;
+
+    if (!read_number(words[0], UINT16_MAX, &source))
+        return false;
+    put_done(lw_table_take(&program->table, (uint16_t)source, &program->host));
+    return true;
+}
+
+static bool call_adopt(struct program *program, const struct word *words)
+{
+    size_t region[3];
+
+    if (!read_region(words, region))
+        return false;
+    put_done(
+        lw_table_adopt(&program->table, &program->host, region[0], region[1], region[2]));
+    return true;
+}
+
+/* By first byte; no two cards have the same one. */
+static int compare_cards(const void *one, const void *two)
+{
+    const lw_table_card *a = one;
+    const lw_table_card *b = two;
+
+    return (a->first > b->first) - (a->first < b->first);
+}
+
+static bool call_tablestate(struct program *program, const struct word *words)
+{
+    lw_table_description table;
+
+    (void)words;
+    lw_table_describe(&program->table, &table);
+    qsort(table.cards, LW_TABLE_CARDS, sizeof table.cards[0], compare_cards);
+    printf("own %" PRIu64, table.own);
+    for (size_t i = 0; i < LW_TABLE_CARDS; i++) {
+        const lw_table_card *card = &table.cards[i];
+        if (card->source != 0)
+            printf(" [%" PRIu64 " %" PRIu64 " %" PRIu64 "]", card->source, card->first, card->size);
+    }
+    putchar('\n');
     return true;
 }
 
@@ -467,7 +587,9 @@ static const struct command {
     {"show", 1, call_show},     {"choose", 1, call_choose},   {"receive", 1, call_receive},
     {"layout", 1, call_layout}, {"class", 1, call_class},     {"marks", 1, call_marks},
     {"slots", 0, call_slots},   {"memory", 0, call_memory},   {"state", 0, call_state},
-    {"store", 1, call_store},   {"restore", 1, call_restore},
+    {"store", 1, call_store},   {"restore", 1, call_restore}, {"table", 2, call_table},
+    {"register", 4, call_register}, {"remove", 1, call_remove}, {"deliver", 2, call_deliver},
+    {"take", 1, call_take},     {"adopt", 3, call_adopt},     {"tablestate", 0, call_tablestate},
 };
 
 /* Does what the line says and writes the answer; false if it is of no form. */
@@ -506,9 +628,10 @@ int main(void)
 {
     static struct program program;
 
-    /* Both ends as a refused opening leaves them, with buffers of no bytes. */
+    /* Both ends and the table as a refused opening leaves them, with buffers of no bytes. */
     lw_card_open(&program.card, 0, 0, 0, NULL, 0);
     lw_host_open(&program.host, 0, 0);
+    lw_table_open(&program.table, 0);
 
     while (read_line(&program)) {
         if (!answer_line(&program))

@@ -5,7 +5,7 @@
  *
  * Ownership. The caller owns every object and every buffer; the library allocates
  * nothing, keeps no pointer from one call to the next and has no state of its own.
- * An lw_host or lw_card is a plain value without pointers: it needs no closing,
+ * An lw_host, lw_table or lw_card is a plain value without pointers: it needs no closing,
  * and a copy of it is a snapshot. A card that goes back to one gives frame numbers
  * a second time, and loses data. Its words are the library's business.
  *
@@ -80,12 +80,18 @@ enum lw_refusal {
     LW_REFUSED_NOTHING_TO_SEAL = 24,         /* the frame being built has no message */
     LW_REFUSED_NOT_HELD = 25,                /* the frame is not held, or there is nothing to choose */
     LW_REFUSED_BAD_LIMIT_OR_SLOTS = 26,      /* limit not 34 to 9,000, or slots not 64 times as large */
-    LW_REFUSED_DATA_FOR_BARE = 27            /* data for a transaction of count 0 */
+    LW_REFUSED_DATA_FOR_BARE = 27,           /* data for a transaction of count 0 */
+
+    /* A table of cards. */
+    LW_REFUSED_TABLE_FULL = 28,            /* 16 cards are registered */
+    LW_REFUSED_REGION_OVERLAPS = 29,       /* the region has a byte of another card's */
+    LW_REFUSED_SOURCE_REGISTERED = 30,     /* a card with this ID is registered */
+    LW_REFUSED_REGION_OUTSIDE_MEMORY = 31  /* the region is empty, or ends past the memory */
 };
 
 /* What a refusal is about. */
 enum lw_class {
-    LW_CLASS_NONE = 0,    /* no refusal, or 15, 17 or 19, which have no class */
+    LW_CLASS_NONE = 0,    /* no refusal, or 15, 17, 19 or 28 to 31, which have no class */
     LW_CLASS_WIRE = 1,    /* the frame as a whole: 1 to 6 */
     LW_CLASS_MESSAGE = 2, /* one message: 7 to 12 */
     LW_CLASS_CALLER = 3,  /* what the caller asked for: 13 and 14 */
@@ -93,7 +99,7 @@ enum lw_class {
 };
 
 /* The class of a refusal number, as one of enum lw_class. Any number may be asked
- * for; 15, 17, 19 and those that are no refusal above are LW_CLASS_NONE. */
+ * for; 15, 17, 19, 28 to 31 and those that are no refusal above are LW_CLASS_NONE. */
 uint32_t lw_refusal_class(uint32_t number);
 
 /* A few words for a refusal number, as a static string: its constant's name in
@@ -127,6 +133,10 @@ static inline const char *lw_refusal_name(uint32_t number)
     case LW_REFUSED_NOT_HELD: return "not held";
     case LW_REFUSED_BAD_LIMIT_OR_SLOTS: return "bad limit or slots";
     case LW_REFUSED_DATA_FOR_BARE: return "data for bare";
+    case LW_REFUSED_TABLE_FULL: return "table full";
+    case LW_REFUSED_REGION_OVERLAPS: return "region overlaps";
+    case LW_REFUSED_SOURCE_REGISTERED: return "source registered";
+    case LW_REFUSED_REGION_OUTSIDE_MEMORY: return "region outside memory";
     default: return "unknown";
     }
 }
@@ -146,6 +156,7 @@ uint32_t lw_trailing_ones(uint64_t marks);
 #define LW_FRAME_WINDOW 64    /* frames under way at most, and slots of a card */
 #define LW_TRANSACTION_WINDOW 32
 #define LW_LONGEST_TEXT 1103  /* bytes of a host's stored text at most; at least 47 */
+#define LW_TABLE_CARDS 16     /* cards at a table at most */
 
 /* Bytes of the slot buffer of a card whose frame limit this is. */
 #define LW_SLOTS_SIZE(limit) ((size_t)LW_FRAME_WINDOW * (limit))
@@ -153,6 +164,8 @@ uint32_t lw_trailing_ones(uint64_t marks);
 #define LW_HOST_WORDS 67
 #define LW_CARD_WORDS 85
 #define LW_PLAIN_WORDS 228
+#define LW_TABLE_WORDS 1121
+#define LW_TABLE_DESCRIPTION_WORDS 49
 #define LW_ANSWER_WORDS 8
 #define LW_REPLAY_WORDS 9     /* of a replay's place */
 #define LW_REPLAY_MEMORY 4096 /* bytes of a replay's memory */
@@ -179,6 +192,11 @@ typedef struct lw_plain {
         uint64_t address, value, count, received;
     } table[LW_TRANSACTION_WINDOW];           /* the open ones, by number modulo 32; else all 0 */
 } lw_plain;
+
+/* A charging host with up to 16 cards over one memory. Open it before anything else. */
+typedef struct lw_table {
+    uint64_t words[LW_TABLE_WORDS];
+} lw_table;
 
 /* What a received frame is answered. */
 enum lw_kind {
@@ -221,6 +239,19 @@ typedef struct lw_description {
     lw_transaction transactions[LW_TRANSACTION_WINDOW]; /* those, nearest the lowest first */
 } lw_description;
 
+/* A card at a table. */
+typedef struct lw_table_card {
+    uint64_t source; /* its ID; 0 where the place is free */
+    uint64_t first;  /* where its region of memory starts */
+    uint64_t size;   /* how many bytes its region has */
+} lw_table_card;
+
+/* What a table's words say of its cards. */
+typedef struct lw_table_description {
+    uint64_t own;
+    lw_table_card cards[LW_TABLE_CARDS]; /* place by place; a free place is all 0 */
+} lw_table_description;
+
 /* A replay of a text that comes in fragments. Any content is a state; what is in it
  * is for the calls below alone. */
 typedef struct lw_replay {
@@ -261,6 +292,18 @@ uint32_t lw_raw_host_acknowledge(const lw_host *host, const lw_answer *answer, u
 void lw_raw_host_describe(const lw_host *host, lw_description *description);
 uint32_t lw_raw_host_store(const lw_host *host, uint8_t *text, size_t size, size_t *length);
 uint32_t lw_raw_host_restore(lw_host *host, const uint8_t *text, size_t length);
+uint32_t lw_raw_table_open(lw_table *table, uint16_t own);
+uint32_t lw_raw_table_register(lw_table *table, uint16_t source, size_t first, size_t size,
+                               size_t memory);
+uint32_t lw_raw_table_remove(lw_table *table, uint16_t source);
+uint32_t lw_raw_table_receive(lw_table *table, const uint8_t *frame, size_t length,
+                              uint8_t *memory, size_t size, uint16_t *source, lw_answer *answer);
+uint32_t lw_raw_table_acknowledge(const lw_table *table, uint16_t source, const lw_answer *answer,
+                                  uint16_t number, uint8_t acknowledgement[LW_ACKNOWLEDGEMENT]);
+uint32_t lw_raw_table_take(const lw_table *table, uint16_t source, lw_host *host);
+uint32_t lw_raw_table_adopt(lw_table *table, const lw_host *host, size_t first, size_t size,
+                            size_t memory);
+void lw_raw_table_describe(const lw_table *table, lw_table_description *description);
 uint32_t lw_raw_plain_open(lw_plain *host, uint16_t own, uint16_t peer);
 uint32_t lw_raw_plain_receive(lw_plain *host, const uint8_t *frame, size_t length, uint8_t *memory,
                               size_t size, lw_answer *answer);
@@ -309,6 +352,8 @@ uint32_t lw_raw_replay_close(uint64_t place[LW_REPLAY_WORDS], uint64_t host[LW_H
 LW_SAME_SIZE(lw_host, LW_HOST_WORDS);
 LW_SAME_SIZE(lw_card, LW_CARD_WORDS);
 LW_SAME_SIZE(lw_plain, LW_PLAIN_WORDS);
+LW_SAME_SIZE(lw_table, LW_TABLE_WORDS);
+LW_SAME_SIZE(lw_table_description, LW_TABLE_DESCRIPTION_WORDS);
 LW_SAME_SIZE(lw_answer, LW_ANSWER_WORDS);
 LW_SAME_SIZE(lw_totals, 3);
 LW_SAME_SIZE(lw_description, LW_DESCRIPTION_WORDS);
@@ -380,6 +425,88 @@ static inline uint32_t lw_host_restore(lw_host *host, const uint8_t *text, size_
 {
     const uint8_t none = 0;
     return lw_raw_host_restore(host, length != 0 ? text : &none, length);
+}
+
+/* ---- A table of cards at one host -------------------------------------- */
+
+/* Opens a table of this ID without cards, whatever *table held before. Returns 0, or
+ * LW_REFUSED_ID_ZERO; then the table has ID 0, and refuses whatever is registered. */
+static inline uint32_t lw_table_open(lw_table *table, uint16_t own)
+{
+    return lw_raw_table_open(table, own);
+}
+
+/* Registers a card by its ID, the source of its frames, with a region of a memory that
+ * has `memory` bytes: size bytes from first on. The card starts as a fresh lw_host does:
+ * nothing received. Returns 0, or the first that applies of LW_REFUSED_ID_ZERO (the
+ * table's or the card's), LW_REFUSED_SOURCE_REGISTERED, LW_REFUSED_REGION_OUTSIDE_MEMORY
+ * (the region is empty, or ends past the memory), LW_REFUSED_REGION_OVERLAPS and
+ * LW_REFUSED_TABLE_FULL; then the table is as it was. No byte of memory changes. */
+static inline uint32_t lw_table_register(lw_table *table, uint16_t source, size_t first,
+                                         size_t size, size_t memory)
+{
+    return lw_raw_table_register(table, source, first, size, memory);
+}
+
+/* Removes a card. Returns 0, or LW_REFUSED_WRONG_ID where none with this ID is
+ * registered; then the table is as it was. No byte of memory changes. */
+static inline uint32_t lw_table_remove(lw_table *table, uint16_t source)
+{
+    return lw_raw_table_remove(table, source);
+}
+
+/* Receives a frame as lw_host_receive does, for the card that is its source: addresses
+ * count from the first byte of that card's region, and what would pass the region's end
+ * is refused as what passes a host's memory. Lend the whole memory each time.
+ * LW_REFUSED_WRONG_ID where the frame is not to this table's ID or its source is not
+ * registered, and right after it LW_REFUSED_REGION_OUTSIDE_MEMORY where the memory ends
+ * before the card's region does. Writes all of *answer, and to *source the source that
+ * the frame names (a byte that a short frame does not have counts as 0), and returns the
+ * answer's kind; unless that is LW_ACCEPTED, table and memory are as they were. */
+static inline uint32_t lw_table_receive(lw_table *table, const uint8_t *frame, size_t length,
+                                        uint8_t *memory, size_t size, uint16_t *source,
+                                        lw_answer *answer)
+{
+    uint8_t none = 0;
+    return lw_raw_table_receive(table, length != 0 ? frame : &none, length,
+                                size != 0 ? memory : &none, size, source, answer);
+}
+
+/* As lw_host_acknowledge, from the table's ID to a source: that which lw_table_receive
+ * told with the answer. */
+static inline uint32_t lw_table_acknowledge(const lw_table *table, uint16_t source,
+                                            const lw_answer *answer, uint16_t number,
+                                            uint8_t acknowledgement[LW_ACKNOWLEDGEMENT])
+{
+    return lw_raw_table_acknowledge(table, source, answer, number, acknowledgement);
+}
+
+/* Copies what the table knows of a card out as a host, to be described, or stored over a
+ * restart. Returns 0, or LW_REFUSED_WRONG_ID where none with this ID is registered; then
+ * *host is as it was. The table does not change. Addresses at that host count from the
+ * first byte of the card's region. */
+static inline uint32_t lw_table_take(const lw_table *table, uint16_t source, lw_host *host)
+{
+    return lw_raw_table_take(table, source, host);
+}
+
+/* Registers the card that is this host's peer, with what the host knows of it in place of
+ * a fresh start, and a region as lw_table_register has it. Returns 0, or the first that
+ * applies of LW_REFUSED_ID_ZERO (an ID is 0, or the host's own is not the table's),
+ * LW_REFUSED_SOURCE_REGISTERED, LW_REFUSED_REGION_OUTSIDE_MEMORY,
+ * LW_REFUSED_REGION_OVERLAPS and LW_REFUSED_TABLE_FULL; then the table is as it was. */
+static inline uint32_t lw_table_adopt(lw_table *table, const lw_host *host, size_t first,
+                                      size_t size, size_t memory)
+{
+    return lw_raw_table_adopt(table, host, first, size, memory);
+}
+
+/* Tells the table's ID, and each card's ID and region. Writes all of *description.
+ * Nothing is refused, and the table does not change. lw_table_take and lw_host_describe
+ * tell more of one card. */
+static inline void lw_table_describe(const lw_table *table, lw_table_description *description)
+{
+    lw_raw_table_describe(table, description);
 }
 
 /* ---- The plain host ---------------------------------------------------- */

@@ -1,6 +1,7 @@
 //! Both ends of a DG/RDMA pair over the proved static library: a charging [`Host`], a
-//! [`PlainHost`] that answers as it does, a [`Card`], a [`Replay`] from fragments, the
-//! layout of a frame, the refusals, and the count of marks by which a window moves.
+//! [`PlainHost`] that answers as it does, a [`Table`] of cards at one host, a [`Card`], a
+//! [`Replay`] from fragments, the layout of a frame, the refusals, and the count of marks
+//! by which a window moves.
 //! Nothing is allocated and nothing is kept between calls but what each of these owns;
 //! what else a call reads or writes is lent to it.
 //!
@@ -33,6 +34,7 @@ mod plain;
 pub mod raw;
 mod refusal;
 mod replay;
+mod table;
 
 pub use card::{Card, Chosen};
 pub use host::{Answer, Description, Host, OpenTransaction};
@@ -44,6 +46,7 @@ pub use plain::PlainHost;
 pub use raw::trailing_ones;
 pub use refusal::{Class, Refusal, refusal_class};
 pub use replay::{Replay, Totals};
+pub use table::{Registered, Table};
 
 /// Bytes of a frame header, and of an acknowledgement.
 pub const FRAME_HEADER: usize = 10;
@@ -51,5 +54,7 @@ pub const FRAME_HEADER: usize = 10;
 pub const LONGEST_FRAME: usize = 9_000;
 /// The longest text that a host is stored as; the shortest has 47 bytes.
 pub const LONGEST_TEXT: usize = 1_103;
+/// Cards of a table at most.
+pub const TABLE_CARDS: usize = 16;
 /// Slots of a card's buffer; it has this many times the frame limit in bytes.
 pub const SLOTS: usize = 64;

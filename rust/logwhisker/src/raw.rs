@@ -10,6 +10,10 @@ pub const HOST_WORDS: usize = 67;
 /// Words of a plain host's state: own, peer, next, lowest, 64 marks of frames, 32 of
 /// transactions, and address, value, count and received of each of 32 open places.
 pub const PLAIN_WORDS: usize = 228;
+/// Words of a table's state.
+pub const TABLE_WORDS: usize = 1_121;
+/// Words of a table's description: own, and source, first byte and length of each place.
+pub const TABLE_DESCRIPTION_WORDS: usize = 49;
 /// Words of a card's state.
 pub const CARD_WORDS: usize = 85;
 /// Words of an answer: kind, number, messages, bytes, completed, refusal, place, run.
@@ -91,6 +95,40 @@ mod exported {
             length: *mut usize,
         ) -> u32;
         pub fn lw_raw_host_restore(words: *mut u64, text: *const u8, length: usize) -> u32;
+        pub fn lw_raw_table_open(words: *mut u64, own: u16) -> u32;
+        pub fn lw_raw_table_register(
+            words: *mut u64,
+            source: u16,
+            first: usize,
+            size: usize,
+            memory: usize,
+        ) -> u32;
+        pub fn lw_raw_table_remove(words: *mut u64, source: u16) -> u32;
+        pub fn lw_raw_table_receive(
+            words: *mut u64,
+            frame: *const u8,
+            length: usize,
+            memory: *mut u8,
+            size: usize,
+            source: *mut u16,
+            answer: *mut u64,
+        ) -> u32;
+        pub fn lw_raw_table_acknowledge(
+            words: *const u64,
+            source: u16,
+            answer: *const u64,
+            number: u16,
+            frame: *mut u8,
+        ) -> u32;
+        pub fn lw_raw_table_take(words: *const u64, source: u16, pair: *mut u64) -> u32;
+        pub fn lw_raw_table_adopt(
+            words: *mut u64,
+            pair: *const u64,
+            first: usize,
+            size: usize,
+            memory: usize,
+        ) -> u32;
+        pub fn lw_raw_table_describe(words: *const u64, description: *mut u64);
         pub fn lw_raw_replay_open(place: *mut u64, words: *mut u64, memory: *mut u8);
         pub fn lw_raw_replay_feed(
             place: *mut u64,
@@ -325,6 +363,99 @@ pub fn host_store(words: &[u64; HOST_WORDS], text: &mut [u8], length: &mut usize
 /// Reads a host back from its text: 0 or 15.
 pub fn host_restore(words: &mut [u64; HOST_WORDS], text: &[u8]) -> u32 {
     unsafe { exported::lw_raw_host_restore(words.as_mut_ptr(), text.as_ptr(), text.len()) }
+}
+
+/// Opens a table: 0 or 13.
+#[inline]
+pub fn table_open(words: &mut [u64; TABLE_WORDS], own: u16) -> u32 {
+    unsafe { exported::lw_raw_table_open(words.as_mut_ptr(), own) }
+}
+
+/// Registers a card with a region of a memory of so many bytes: 0 or the refusal.
+#[inline]
+pub fn table_register(
+    words: &mut [u64; TABLE_WORDS],
+    source: u16,
+    first: usize,
+    size: usize,
+    memory: usize,
+) -> u32 {
+    unsafe { exported::lw_raw_table_register(words.as_mut_ptr(), source, first, size, memory) }
+}
+
+/// Removes a card: 0 or 3.
+#[inline]
+pub fn table_remove(words: &mut [u64; TABLE_WORDS], source: u16) -> u32 {
+    unsafe { exported::lw_raw_table_remove(words.as_mut_ptr(), source) }
+}
+
+/// Receives a frame at a table and gives the answer's kind.
+#[inline]
+pub fn table_receive(
+    words: &mut [u64; TABLE_WORDS],
+    frame: &[u8],
+    memory: &mut [u8],
+    source: &mut u16,
+    answer: &mut [u64; ANSWER_WORDS],
+) -> u32 {
+    unsafe {
+        exported::lw_raw_table_receive(
+            words.as_mut_ptr(),
+            frame.as_ptr(),
+            frame.len(),
+            memory.as_mut_ptr(),
+            memory.len(),
+            source,
+            answer.as_mut_ptr(),
+        )
+    }
+}
+
+/// Writes the acknowledgement to a source that an answer calls for: 1 if it does, else 0.
+#[inline]
+pub fn table_acknowledge(
+    words: &[u64; TABLE_WORDS],
+    source: u16,
+    answer: &[u64; ANSWER_WORDS],
+    number: u16,
+    frame: &mut [u8; 10],
+) -> u32 {
+    unsafe {
+        exported::lw_raw_table_acknowledge(
+            words.as_ptr(),
+            source,
+            answer.as_ptr(),
+            number,
+            frame.as_mut_ptr(),
+        )
+    }
+}
+
+/// Copies a card's pair out as a host's words: 0 or 3.
+#[inline]
+pub fn table_take(words: &[u64; TABLE_WORDS], source: u16, pair: &mut [u64; HOST_WORDS]) -> u32 {
+    unsafe { exported::lw_raw_table_take(words.as_ptr(), source, pair.as_mut_ptr()) }
+}
+
+/// Registers a host's peer with the host's pair: 0 or the refusal.
+#[inline]
+pub fn table_adopt(
+    words: &mut [u64; TABLE_WORDS],
+    pair: &[u64; HOST_WORDS],
+    first: usize,
+    size: usize,
+    memory: usize,
+) -> u32 {
+    unsafe { exported::lw_raw_table_adopt(words.as_mut_ptr(), pair.as_ptr(), first, size, memory) }
+}
+
+/// Describes a table.
+#[inline]
+pub fn table_describe(
+    words: &[u64; TABLE_WORDS],
+    description: &mut [u64; TABLE_DESCRIPTION_WORDS],
+) {
+    unsafe { exported::lw_raw_table_describe(words.as_ptr(), description.as_mut_ptr()) }
 }
 
 /// Opens a replay.

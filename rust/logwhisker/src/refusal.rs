@@ -78,6 +78,14 @@ refusals! {
     BAD_LIMIT_OR_SLOTS = 26,
     /// Data for the message of a transaction that takes none.
     DATA_FOR_BARE = 27,
+    /// 16 cards are registered.
+    TABLE_FULL = 28,
+    /// The region has a byte of another card's.
+    REGION_OVERLAPS = 29,
+    /// A card with this ID is registered.
+    SOURCE_REGISTERED = 30,
+    /// The region is empty, or ends past the memory.
+    REGION_OUTSIDE_MEMORY = 31,
 }
 
 impl Refusal {
@@ -120,7 +128,7 @@ impl Error for Refusal {}
 #[derive(Clone, Copy, Debug, PartialEq, Eq, Hash)]
 #[repr(u32)]
 pub enum Class {
-    /// No refusal, or 15, 17 or 19, which have no class.
+    /// No refusal, or 15, 17, 19 or 28 to 31, which have no class.
     None = 0,
     /// The frame as a whole: 1 to 6.
     Wire = 1,
