@@ -7,19 +7,43 @@
 
 use crate::plain::card::Card;
 use crate::plain::host::{Answer, Host};
+use crate::plain::table::Table;
 
 /// A host that is called for every frame.
 pub trait HostEnd {
     /// What a frame is answered.
     type Answer: Default;
-    /// A fresh one at 1 for a peer at 2.
-    fn fresh() -> Self;
+    /// A fresh one at 1 for this peer.
+    fn fresh(peer: u16) -> Self;
+    /// The same in place of one that was there; gives 0 or a refusal's number.
+    fn reopen(&mut self, peer: u16) -> u32;
     /// Receives a frame.
     fn receive(&mut self, frame: &[u8], memory: &mut [u8], answer: &mut Self::Answer);
     /// Data bytes of an accepted frame, otherwise 0.
     fn bytes(answer: &Self::Answer) -> u64;
     /// Kind, number, messages, bytes, completed, refusal, place, run.
     fn words(answer: &Self::Answer) -> [u64; 8];
+}
+
+/// A table of cards that is called for every frame. Registering and removing give 0 or a
+/// refusal's number.
+pub trait TableEnd {
+    /// The host of these ends, which answers in the same form.
+    type Host: HostEnd;
+    /// A fresh one at 1 without cards.
+    fn fresh() -> Self;
+    /// Registers a card with `size` bytes from `first` on of so many.
+    fn register(&mut self, source: u16, first: usize, size: usize, memory: usize) -> u32;
+    /// Removes a card.
+    fn remove(&mut self, source: u16) -> u32;
+    /// Receives a frame, and tells its source.
+    fn receive(
+        &mut self,
+        frame: &[u8],
+        memory: &mut [u8],
+        source: &mut u16,
+        answer: &mut <Self::Host as HostEnd>::Answer,
+    );
 }
 
 /// A card that is called for every step; each gives 0 or a refusal's number.
@@ -45,11 +69,23 @@ extern "C" fn plain_receive(host: &mut Host, frame: &[u8], memory: &mut [u8], an
     *answer = host.receive(frame, memory);
 }
 
+#[inline(never)]
+extern "C" fn plain_reopen(host: &mut Host, own: u16, peer: u16) -> u32 {
+    let (fresh, refusal) = Host::open(own, peer);
+    *host = fresh;
+    refusal.map_or(0, u32::from)
+}
+
 impl HostEnd for Host {
     type Answer = Answer;
 
-    fn fresh() -> Host {
-        Host::open(1, 2).0
+    fn fresh(peer: u16) -> Host {
+        Host::open(1, peer).0
+    }
+
+    #[inline(always)]
+    fn reopen(&mut self, peer: u16) -> u32 {
+        plain_reopen(self, 1, peer)
     }
 
     #[inline(always)]
@@ -87,6 +123,61 @@ impl HostEnd for Host {
             Answer::NoMessages => [3, 0, 0, 0, 0, 0, 0, 0],
             Answer::Refused { number, place } => [4, 0, 0, 0, 0, number.into(), place.into(), 0],
         }
+    }
+}
+
+#[inline(never)]
+extern "C" fn plain_register(
+    table: &mut Table,
+    source: u16,
+    first: usize,
+    size: usize,
+    memory: usize,
+) -> u32 {
+    let registered = table.register(source, first as u64, size as u64, memory as u64);
+    registered.map_or_else(u32::from, |()| 0)
+}
+
+#[inline(never)]
+extern "C" fn plain_remove(table: &mut Table, source: u16) -> u32 {
+    table.remove(source).map_or_else(u32::from, |()| 0)
+}
+
+#[inline(never)]
+extern "C" fn plain_table_receive(
+    table: &mut Table,
+    frame: &[u8],
+    memory: &mut [u8],
+    source: &mut u16,
+    answer: &mut Answer,
+) {
+    *source = match frame {
+        [_, _, low, high, ..] => u16::from_le_bytes([*low, *high]),
+        _ => 0,
+    };
+    *answer = table.receive(frame, memory);
+}
+
+impl TableEnd for Table {
+    type Host = Host;
+
+    fn fresh() -> Table {
+        Table::open(1).0
+    }
+
+    #[inline(always)]
+    fn register(&mut self, source: u16, first: usize, size: usize, memory: usize) -> u32 {
+        plain_register(self, source, first, size, memory)
+    }
+
+    #[inline(always)]
+    fn remove(&mut self, source: u16) -> u32 {
+        plain_remove(self, source)
+    }
+
+    #[inline(always)]
+    fn receive(&mut self, frame: &[u8], memory: &mut [u8], source: &mut u16, answer: &mut Answer) {
+        plain_table_receive(self, frame, memory, source, answer);
     }
 }
 
@@ -177,8 +268,8 @@ impl CardEnd for Card {
 /// The proved ends, through the exported functions.
 #[cfg(feature = "proved")]
 pub mod proved {
-    use super::{CardEnd, HostEnd};
-    use logwhisker::raw::{self, ANSWER_WORDS, CARD_WORDS, HOST_WORDS};
+    use super::{CardEnd, HostEnd, TableEnd};
+    use logwhisker::raw::{self, ANSWER_WORDS, CARD_WORDS, HOST_WORDS, TABLE_WORDS};
 
     /// The proved host.
     pub struct Host([u64; HOST_WORDS]);
@@ -186,10 +277,15 @@ pub mod proved {
     impl HostEnd for Host {
         type Answer = [u64; ANSWER_WORDS];
 
-        fn fresh() -> Host {
+        fn fresh(peer: u16) -> Host {
             let mut words = [0; HOST_WORDS];
-            assert_eq!(raw::host_open(&mut words, 1, 2), 0);
+            assert_eq!(raw::host_open(&mut words, 1, peer), 0);
             Host(words)
+        }
+
+        #[inline(always)]
+        fn reopen(&mut self, peer: u16) -> u32 {
+            raw::host_open(&mut self.0, 1, peer)
         }
 
         #[inline(always)]
@@ -205,6 +301,40 @@ pub mod proved {
 
         fn words(answer: &Self::Answer) -> [u64; 8] {
             *answer
+        }
+    }
+
+    /// The proved table.
+    pub struct Table([u64; TABLE_WORDS]);
+
+    impl TableEnd for Table {
+        type Host = Host;
+
+        fn fresh() -> Table {
+            let mut words = [0; TABLE_WORDS];
+            assert_eq!(raw::table_open(&mut words, 1), 0);
+            Table(words)
+        }
+
+        #[inline(always)]
+        fn register(&mut self, source: u16, first: usize, size: usize, memory: usize) -> u32 {
+            raw::table_register(&mut self.0, source, first, size, memory)
+        }
+
+        #[inline(always)]
+        fn remove(&mut self, source: u16) -> u32 {
+            raw::table_remove(&mut self.0, source)
+        }
+
+        #[inline(always)]
+        fn receive(
+            &mut self,
+            frame: &[u8],
+            memory: &mut [u8],
+            source: &mut u16,
+            answer: &mut [u64; ANSWER_WORDS],
+        ) {
+            raw::table_receive(&mut self.0, frame, memory, source, answer);
         }
     }
 

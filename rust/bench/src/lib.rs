@@ -1,6 +1,6 @@
-//! What the benchmarks are made of: both ends and the replay in plain Rust written for
-//! speed, the frames that hosts are timed on, the steps that cards are timed on, and both
-//! kinds of ends behind the same boundary.
+//! What the benchmarks are made of: both ends, the table and the replay in plain Rust written
+//! for speed, the frames that hosts are timed on, the steps that cards are timed on, the runs
+//! of tables, and both kinds of ends behind the same boundary.
 
 #![forbid(unsafe_code)]
 
@@ -9,3 +9,4 @@ pub mod plain;
 pub mod replay;
 pub mod shapes;
 pub mod steps;
+pub mod tables;

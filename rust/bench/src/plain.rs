@@ -1,5 +1,6 @@
-//! Both ends as one writes them for speed: state in place, marks in single words, nothing
-//! allocated. Tests beside them compare them with the reference.
+//! Both ends and the table as one writes them for speed: state in place, marks in single
+//! words, nothing allocated for a frame. Tests beside them compare them with the reference.
 
 pub mod card;
 pub mod host;
+pub mod table;

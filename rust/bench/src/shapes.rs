@@ -3,9 +3,16 @@
 //! frame or a transaction, and in the order in which the frames arrive.
 
 use reference::wire::{FRAME_HEADER, MESSAGE_HEADER, Message, next_header, write_frame};
+use std::ops::Range;
 
 /// Bytes of the memory that hosts are timed with.
 pub const MEMORY: usize = 1 << 16;
+/// Cards of the tables that are timed, with the sources from [`FIRST_SOURCE`] on.
+pub const CARDS: usize = 16;
+/// The source of the frames of a host, and of the card at a table's first place.
+pub const FIRST_SOURCE: u16 = 2;
+/// Bytes of a card's region.
+pub const REGION: usize = MEMORY / CARDS;
 /// Frames that are put out of order with each other: as many as the windows of both frames
 /// and transactions take.
 const BLOCK: usize = 32;
@@ -34,6 +41,25 @@ pub struct Shape {
     pub count: usize,
     /// How they arrive.
     pub order: Order,
+}
+
+/// Whose frames a table gets. All sixteen are registered.
+#[derive(Clone, Copy, Debug, PartialEq, Eq)]
+pub enum Cards {
+    /// Those of the card at this place.
+    At(usize),
+    /// A frame of each in turn.
+    InTurn,
+}
+
+impl Cards {
+    /// The places of those that send.
+    pub fn places(self) -> Range<usize> {
+        match self {
+            Cards::At(place) => place..place + 1,
+            Cards::InTurn => 0..CARDS,
+        }
+    }
 }
 
 const fn shape(
@@ -111,9 +137,25 @@ impl Shape {
             let messages =
                 (0..self.messages).map(|index| self.message(frame, index, &data, memory));
             let messages: Vec<Message> = messages.collect();
-            all.extend(write_frame(1, 2, frame as u16, &messages));
+            all.extend(write_frame(1, FIRST_SOURCE, frame as u16, &messages));
         }
         assert_eq!(all.len(), arrivals * self.size());
+        all
+    }
+
+    /// That many arrivals of one card or of all in turn, whose numbers start at 0 each.
+    pub fn frames_of(&self, cards: Cards, arrivals: usize) -> Vec<u8> {
+        let (places, size) = (cards.places(), self.size());
+        let one = self.frames(arrivals / places.len(), REGION);
+        let mut all = Vec::with_capacity(one.len() * places.len());
+        for frame in one.chunks_exact(size) {
+            for place in places.clone() {
+                let start = all.len();
+                all.extend(frame);
+                let source = FIRST_SOURCE + place as u16;
+                all[start + 2..start + 4].copy_from_slice(&source.to_le_bytes());
+            }
+        }
         all
     }
 

@@ -1,13 +1,14 @@
-//! The program that drives a card and a host by lines, one call each, and writes every
-//! answer, for comparison with the proved one. It works on any ends and any stream, so
+//! The program that drives a card, a host and a table by lines, one call each, and writes
+//! every answer, for comparison with the proved one. It works on any ends and any stream, so
 //! that tests and the program beside it run the same code.
 
 use crate::demand::UNWRITTEN;
-use crate::ends::{CardEnd, Ends, HostEnd, Start};
+use crate::ends::{CardEnd, Ends, HostEnd, Start, TableEnd};
 use crate::host::{Answer, Host};
 use crate::marks;
 use crate::refusal::{self, Class};
-use crate::wire;
+use crate::table::{Region, Registered, source_of};
+use crate::wire::{self, FRAME_HEADER};
 use line::Line;
 use std::fmt::Write as _;
 use std::io::{self, BufRead, Write};
@@ -26,18 +27,21 @@ pub struct Program<E: Ends> {
     card: E::Card,
     slots: Vec<u8>,
     host: E::Host,
+    table: E::Table,
+    /// The host's and the table's.
     memory: Vec<u8>,
 }
 
 impl<E: Ends> Program<E> {
-    /// Before the first line: both ends as a refused opening leaves them, with buffers
-    /// of no bytes.
+    /// Before the first line: both ends and the table as a refused opening leaves them,
+    /// with buffers of no bytes.
     pub fn new(ends: E) -> Program<E> {
         let start = Start::default();
         Program {
             card: ends.open_card(0, 0, 0, &[], start).0,
             slots: Vec::new(),
             host: ends.open_host(0, 0, start).0,
+            table: ends.open_table(0).0,
             memory: Vec::new(),
             ends,
         }
@@ -95,7 +99,7 @@ impl<E: Ends> Program<E> {
             }
             Line::Receive(frame) => {
                 let answer = self.host.receive(&frame, &mut self.memory);
-                self.received(answer)
+                received(answer, self.host.acknowledgement(answer, 0))
             }
             Line::Layout(frame) => layout(&frame),
             Line::Class(number) => class(number).to_string(),
@@ -113,7 +117,36 @@ impl<E: Ends> Program<E> {
                 self.host.put(host);
                 done(refusal.map_or(Ok(()), Err))
             }
+            Line::Table { own, memory } => {
+                self.memory = vec![0; memory];
+                let (table, refusal) = self.ends.open_table(own);
+                self.table = table;
+                done(refusal.map_or(Ok(()), Err))
+            }
+            Line::Register {
+                source,
+                region,
+                memory,
+            } => done(self.table.register(source, region, memory)),
+            Line::Remove(source) => done(self.table.remove(source)),
+            Line::Deliver { memory, frame } => self.deliver(memory, &frame),
+            Line::Take(source) => {
+                let taken = self.table.take(source);
+                done(taken.map(|pair| self.host.put(pair)))
+            }
+            Line::Adopt { region, memory } => {
+                done(self.table.adopt(self.host.host(), region, memory))
+            }
+            Line::TableState => table_state(&self.table),
         }
+    }
+
+    /// The table gets the first bytes of the memory, all of them if it has no more.
+    fn deliver(&mut self, memory: u64, frame: &[u8]) -> String {
+        let lent = memory.min(self.memory.len() as u64) as usize;
+        let answer = self.table.receive(frame, &mut self.memory[..lent]);
+        let source = source_of(frame).unwrap_or(0);
+        received(answer, self.table.acknowledgement(answer, source, 0))
     }
 
     /// A part is told with the place where it starts in the slot buffer, if it does.
@@ -135,21 +168,6 @@ impl<E: Ends> Program<E> {
         }
     }
 
-    fn received(&self, answer: Answer) -> String {
-        let mut text = answer.to_string();
-        match answer {
-            Answer::Accepted { run, .. } | Answer::Again { run, .. } => {
-                append(&mut text, format_args!(" run {run}"));
-            }
-            Answer::Refused { place, .. } => append(&mut text, format_args!(" place {place}")),
-            Answer::NoMessages => {}
-        }
-        if let Some(frame) = self.host.acknowledgement(answer, 0) {
-            append(&mut text, format_args!(" ack {}", hex(&frame)));
-        }
-        text
-    }
-
     /// The card.
     pub fn card(&self) -> &E::Card {
         &self.card
@@ -159,6 +177,32 @@ impl<E: Ends> Program<E> {
     pub fn host(&self) -> &E::Host {
         &self.host
     }
+
+    /// The table.
+    pub fn table(&self) -> &E::Table {
+        &self.table
+    }
+
+    /// The memory of both.
+    pub fn memory(&self) -> &[u8] {
+        &self.memory
+    }
+}
+
+/// The answer to a frame, with what it calls for.
+fn received(answer: Answer, acknowledgement: Option<[u8; FRAME_HEADER]>) -> String {
+    let mut text = answer.to_string();
+    match answer {
+        Answer::Accepted { run, .. } | Answer::Again { run, .. } => {
+            append(&mut text, format_args!(" run {run}"));
+        }
+        Answer::Refused { place, .. } => append(&mut text, format_args!(" place {place}")),
+        Answer::NoMessages => {}
+    }
+    if let Some(frame) = acknowledgement {
+        append(&mut text, format_args!(" ack {}", hex(&frame)));
+    }
+    text
 }
 
 fn done(result: Result<(), u8>) -> String {
@@ -222,6 +266,16 @@ fn state(host: &Host) -> String {
             &mut text,
             format_args!(" [{number} {address} {value} {count} {received} 0]"),
         );
+    }
+    text
+}
+
+/// The table's cards with their regions, by first byte.
+fn table_state(table: &impl TableEnd) -> String {
+    let mut text = format!("own {}", table.own());
+    for Registered { source, region } in table.cards() {
+        let Region { first, length } = region;
+        append(&mut text, format_args!(" [{source} {first} {length}]"));
     }
     text
 }

@@ -1,8 +1,9 @@
-//! What a card and a host are to those who drive them, so that lists and scripts can
-//! be run on the reference and on ends with a fault alike.
+//! What a card, a host and a table are to those who drive them, so that lists and scripts
+//! can be run on the reference and on ends with a fault alike.
 
 use crate::card::Card;
 use crate::host::{Answer, Host};
+use crate::table::{Region, Registered, Table};
 use crate::wire::FRAME_HEADER;
 
 /// The calls on a card.
@@ -37,6 +38,31 @@ pub trait HostEnd {
     fn put(&mut self, host: Host);
 }
 
+/// The calls on a table.
+pub trait TableEnd {
+    /// See [`Table::register`].
+    fn register(&mut self, source: u16, region: Region, memory: u64) -> Result<(), u8>;
+    /// See [`Table::adopt`].
+    fn adopt(&mut self, pair: &Host, region: Region, memory: u64) -> Result<(), u8>;
+    /// See [`Table::remove`].
+    fn remove(&mut self, source: u16) -> Result<(), u8>;
+    /// See [`Table::take`].
+    fn take(&self, source: u16) -> Result<Host, u8>;
+    /// See [`Table::receive`].
+    fn receive(&mut self, frame: &[u8], memory: &mut [u8]) -> Answer;
+    /// See [`Table::acknowledgement`].
+    fn acknowledgement(
+        &self,
+        answer: Answer,
+        source: u16,
+        next_number: u16,
+    ) -> Option<[u8; FRAME_HEADER]>;
+    /// See [`Table::own`].
+    fn own(&self) -> u16;
+    /// See [`Table::cards`].
+    fn cards(&self) -> Vec<Registered>;
+}
+
 /// Where the numbers of both ends start: 0 and 0 unless a test wants to be near the
 /// end of a number space.
 #[derive(Clone, Copy, Debug, Default, PartialEq, Eq)]
@@ -53,6 +79,8 @@ pub trait Ends {
     type Card: CardEnd;
     /// Its host.
     type Host: HostEnd;
+    /// Its table.
+    type Table: TableEnd;
 
     /// As [`Card::open`]; an end that is not refused starts as told.
     fn open_card(
@@ -66,6 +94,9 @@ pub trait Ends {
 
     /// As [`Host::open`]; an end that is not refused starts as told.
     fn open_host(&self, own: u16, peer: u16, start: Start) -> (Self::Host, Option<u8>);
+
+    /// As [`Table::open`].
+    fn open_table(&self, own: u16) -> (Self::Table, Option<u8>);
 }
 
 /// The reference's own ends.
@@ -75,6 +106,7 @@ pub struct Sound;
 impl Ends for Sound {
     type Card = Card;
     type Host = Host;
+    type Table = Table;
 
     fn open_card(
         &self,
@@ -101,6 +133,10 @@ impl Ends for Sound {
             }
             refused => refused,
         }
+    }
+
+    fn open_table(&self, own: u16) -> (Table, Option<u8>) {
+        Table::open(own)
     }
 }
 
@@ -147,5 +183,44 @@ impl HostEnd for Host {
 
     fn put(&mut self, host: Host) {
         *self = host;
+    }
+}
+
+impl TableEnd for Table {
+    fn register(&mut self, source: u16, region: Region, memory: u64) -> Result<(), u8> {
+        Table::register(self, source, region, memory)
+    }
+
+    fn adopt(&mut self, pair: &Host, region: Region, memory: u64) -> Result<(), u8> {
+        Table::adopt(self, pair, region, memory)
+    }
+
+    fn remove(&mut self, source: u16) -> Result<(), u8> {
+        Table::remove(self, source)
+    }
+
+    fn take(&self, source: u16) -> Result<Host, u8> {
+        Table::take(self, source)
+    }
+
+    fn receive(&mut self, frame: &[u8], memory: &mut [u8]) -> Answer {
+        Table::receive(self, frame, memory)
+    }
+
+    fn acknowledgement(
+        &self,
+        answer: Answer,
+        source: u16,
+        next_number: u16,
+    ) -> Option<[u8; FRAME_HEADER]> {
+        Table::acknowledgement(self, answer, source, next_number)
+    }
+
+    fn own(&self) -> u16 {
+        Table::own(self)
+    }
+
+    fn cards(&self) -> Vec<Registered> {
+        Table::cards(self)
     }
 }

@@ -1,15 +1,18 @@
 //! Ends with one fault each, to show that the check of demand 3, or a comparison of
-//! answers and bytes, would find it. Each wraps the reference's end and changes one
-//! thing, so that all else stays as it is there.
+//! answers and bytes, would find it. Each card and host wraps the reference's end and
+//! changes one thing, so that all else stays as it is there.
 
 use crate::ends::{Ends, Sound, Start};
+use crate::table::Table;
 use crate::windows::Windows;
 
 mod card;
 mod host;
+mod table;
 
 pub use card::FaultyCard;
 pub use host::FaultyHost;
+pub use table::{FaultyTable, FaultyTables, TableFault, TableFoundBy};
 
 /// Who finds a fault.
 #[derive(Clone, Copy, Debug, PartialEq, Eq)]
@@ -190,6 +193,7 @@ impl Faulty {
 impl Ends for Faulty {
     type Card = FaultyCard;
     type Host = FaultyHost;
+    type Table = Table;
 
     fn open_card(
         &self,
@@ -208,5 +212,9 @@ impl Ends for Faulty {
         let (host, refusal) = Sound.open_host(own, peer, start);
         let host = host.with_windows(self.host_windows());
         (FaultyHost::new(self.0, host), refusal)
+    }
+
+    fn open_table(&self, own: u16) -> (Table, Option<u8>) {
+        Sound.open_table(own)
     }
 }

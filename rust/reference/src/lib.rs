@@ -9,6 +9,7 @@
 
 #![forbid(unsafe_code)]
 
+pub mod aimed;
 pub mod book;
 pub mod calls;
 pub mod card;
@@ -28,6 +29,8 @@ pub mod rng;
 pub mod script;
 pub mod settings;
 pub mod simulator;
+pub mod table;
+pub mod table_lists;
 pub mod texts;
 pub mod traffic;
 pub mod windows;

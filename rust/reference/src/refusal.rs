@@ -7,7 +7,8 @@ use std::ops::RangeInclusive;
 pub const FRAME_SHORT: u8 = 1;
 /// The frame is longer than any frame may be.
 pub const FRAME_LONG: u8 = 2;
-/// The frame is for another endpoint or from another one than the peer.
+/// The frame is for another endpoint or from another one than the peer; at a table, from
+/// one that is not registered, as also a removal may be.
 pub const WRONG_ID: u8 = 3;
 /// One of the seven flag bits without a meaning is set.
 pub const RESERVED_FLAG: u8 = 4;
@@ -29,7 +30,8 @@ pub const DATA_OUTSIDE: u8 = 11;
 /// The completion would be written past the end of memory.
 pub const COMPLETION_OUTSIDE: u8 = 12;
 
-/// An end cannot be opened, nor a pair be stored, with an ID of 0 (R6).
+/// An end cannot be opened, nor a pair be stored (R6), nor a card be registered, with an
+/// ID of 0.
 pub const ID_ZERO: u8 = 13;
 /// The line is not a whole number of bytes in hexadecimal.
 pub const BAD_LINE: u8 = 14;
@@ -55,6 +57,16 @@ pub const NOTHING_TO_SHOW: u8 = 25;
 pub const BAD_LIMIT: u8 = 26;
 /// Data was given for the message of a transaction without data messages.
 pub const DATA_FOR_BARE: u8 = 27;
+
+/// The table has sixteen cards already.
+pub const TABLE_FULL: u8 = 28;
+/// The region has a byte in common with another card's.
+pub const REGION_OVERLAPS: u8 = 29;
+/// The source is registered already.
+pub const REGISTERED: u8 = 30;
+/// The region has no bytes or does not lie in memory, or the memory that came with a frame
+/// ends before its source's region does.
+pub const REGION_OUTSIDE: u8 = 31;
 
 /// What a refusal is about. The discriminants are the numbers that C sees.
 #[derive(Clone, Copy, Debug, PartialEq, Eq, Hash)]
@@ -159,6 +171,7 @@ mod tests {
             (20, Class::Card),
             (27, Class::Card),
             (28, Class::None),
+            (31, Class::None),
             (255, Class::None),
             // Numbers whose low byte or low half is that of a refusal.
             (256 + 1, Class::None),

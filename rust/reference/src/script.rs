@@ -1,5 +1,5 @@
-//! Scripts for the program `calls`: the lists of demand 3 spelled as its lines, and
-//! lines of any kind, also such as no list of that demand has.
+//! Scripts for the program `calls`: the lists of demand 3 spelled as its lines, lines of
+//! any kind, also such as no list of that demand has, and lines about a table.
 
 use crate::calls::hex;
 use crate::card::SLOTS;
@@ -7,8 +7,10 @@ use crate::demand::{Care, Setting, System};
 use crate::ends::{Sound, Start};
 use crate::list::Call;
 
+mod tables;
 mod wild;
 
+pub use tables::Tables;
 pub use wild::Wild;
 
 /// Spells a list, with questions for the digests and the host's state after every

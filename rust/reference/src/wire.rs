@@ -37,7 +37,8 @@ pub struct FrameHeader {
 }
 
 impl FrameHeader {
-    fn from_bytes(bytes: &[u8; FRAME_HEADER]) -> FrameHeader {
+    /// The fields of these bytes.
+    pub fn from_bytes(bytes: &[u8; FRAME_HEADER]) -> FrameHeader {
         FrameHeader {
             destination: u16_at(bytes, 0),
             source: u16_at(bytes, 2),

@@ -1,8 +1,10 @@
 //! The stored script for the program `calls`, which `calls-sample` makes: the independent
 //! program gives the stored answers, and they have every refusal and every kind of answer
-//! among them.
+//! among them. Random scripts have them too: `LW_SEED` chooses the first seed of those
+//! about tables and `LW_SCRIPTS` their number.
 
-use reference::script::Wild;
+use reference::script::{Tables, Wild};
+use reference::settings::{count_from_env, number_from_env};
 use std::collections::BTreeMap;
 use std::io::Write;
 use std::process::{Command, Stdio};
@@ -52,7 +54,7 @@ fn the_stored_script_has_every_refusal_and_answer() {
         asked.any(|(name, answer)| *name == word.as_bytes() && test(answer))
     };
     let host: Vec<(&str, u8)> = (1..=12).map(|number| ("receive", number)).collect();
-    let card = [
+    let others = [
         ("card", 13),
         ("card", 26),
         ("host", 13),
@@ -77,10 +79,28 @@ fn the_stored_script_has_every_refusal_and_answer() {
         ("layout", 4),
         ("layout", 5),
         ("restore", 15),
+        ("table", 13),
+        ("register", 13),
+        ("register", 28),
+        ("register", 29),
+        ("register", 30),
+        ("register", 31),
+        ("adopt", 13),
+        ("adopt", 28),
+        ("adopt", 29),
+        ("adopt", 30),
+        ("adopt", 31),
+        ("remove", 3),
+        ("take", 3),
+        ("deliver", 1),
+        ("deliver", 3),
+        ("deliver", 11),
+        ("deliver", 12),
+        ("deliver", 31),
     ];
-    for (word, number) in host.into_iter().chain(card) {
+    for (word, number) in host.into_iter().chain(others) {
         let refused = match word {
-            "receive" => has(word, &|answer| {
+            "receive" | "deliver" => has(word, &|answer| {
                 answer.starts_with(&format!("R {number} place "))
             }),
             _ => has(word, &|answer| answer == format!("R {number}")),
@@ -115,6 +135,22 @@ fn the_stored_script_has_every_refusal_and_answer() {
         ("store", "R 13 "),
         ("store", "R 19 "),
         ("restore", "ok"),
+        ("table", "ok"),
+        ("register", "ok"),
+        ("remove", "ok"),
+        ("take", "ok"),
+        ("adopt", "ok"),
+        ("deliver", "A "),
+        ("deliver", "G "),
+        ("deliver", "N"),
+        ("tablestate", "own "),
+        ("table", "?"),
+        ("register", "?"),
+        ("remove", "?"),
+        ("deliver", "?"),
+        ("take", "?"),
+        ("adopt", "?"),
+        ("tablestate", "?"),
         ("hello", "?"),
     ] {
         let answered = has(word, &|got| got.starts_with(answer));
@@ -198,4 +234,57 @@ fn lines_of_any_kind_meet_every_answer() {
         let times = met.get(&(word.to_string(), answer.clone())).copied();
         assert!(times.unwrap_or(0) >= 5, "{word} with {answer}: {times:?}");
     }
+}
+
+/// The same of lines about a table.
+#[test]
+fn lines_about_tables_meet_every_answer() {
+    let first = number_from_env("LW_SEED", 1);
+    let scripts = count_from_env("LW_SCRIPTS", 4);
+    let mut met: BTreeMap<(String, String), u64> = BTreeMap::new();
+    let mut full = 0;
+    for seed in first..first + scripts {
+        let mut tables = Tables::new(seed);
+        for _ in 0..12_000 {
+            let (line, answer) = tables.next_line();
+            *met.entry(kind(&line, &answer)).or_default() += 1;
+            full += u64::from(line == b"tablestate" && answer.matches('[').count() == 16);
+        }
+    }
+    println!("seed {first}, {scripts} scripts: {met:?}, {full} full tables told");
+    let refusals: [(&str, &[u8]); 6] = [
+        ("table", &[13]),
+        ("register", &[13, 30, 31, 29, 28]),
+        ("remove", &[3]),
+        ("take", &[3]),
+        ("adopt", &[13, 30, 31, 29, 28]),
+        ("deliver", &[1, 2, 3, 31, 4, 5, 6, 7, 8, 9, 10, 11, 12]),
+    ];
+    let refused = refusals
+        .iter()
+        .flat_map(|(word, numbers)| numbers.iter().map(move |n| (*word, format!("R {n}"))));
+    let answered = [
+        "table ok",
+        "register ok",
+        "remove ok",
+        "take ok",
+        "adopt ok",
+        "deliver A",
+        "deliver G",
+        "deliver N",
+        "receive A",
+        "tablestate own",
+        "state own",
+        "memory digest",
+        "register ?",
+        "deliver ?",
+        "adopt ?",
+    ];
+    let answered = answered.map(|pair| pair.split_once(' ').unwrap_or((pair, "")));
+    let answered = answered.map(|(word, answer)| (word, answer.to_string()));
+    for (word, answer) in refused.chain(answered) {
+        let times = met.get(&(word.to_string(), answer.clone())).copied();
+        assert!(times.unwrap_or(0) >= 5, "{word} with {answer}: {times:?}");
+    }
+    assert!(full > 0, "no full table was told");
 }

@@ -1,12 +1,16 @@
-//! Times both ends, the proved ones against plain ones, each called for every frame or step
-//! across the same boundary, in turns in one process, and prints the best and the median of
-//! the turns. What both give is compared before anything is timed. Build it with the profile
-//! `bench-release`, which leaves out the checks that tests run with.
+//! Times both ends and tables of sixteen cards, the proved ones against plain ones, each
+//! called for every frame or step across the same boundary, in turns in one process, and
+//! prints the best and the median of the turns. The proved table is timed against proved
+//! hosts on the same frames too. What all give is compared before anything is timed. Build it
+//! with the profile `bench-release`, which leaves out the checks that tests run with. With an
+//! argument it times only the lines whose name has it, such as `'table, d'`.
 
 use bench::ends::{CardEnd, HostEnd, plain_marks};
 use bench::plain;
-use bench::shapes::{MEMORY, SHAPES, Shape};
+use bench::shapes::{CARDS, Cards, FIRST_SOURCE, MEMORY, SHAPES, Shape};
 use bench::steps::{SLOTS, STEPS, Steps};
+use bench::tables::{CHANGES, ChangeRun, Given, TableRun, Timed};
+use std::env;
 use std::hint::black_box;
 use std::time::Instant;
 
@@ -17,6 +21,10 @@ const FROM_CACHE: usize = 512;
 const TURNS_FROM_MEMORY: usize = 24;
 const TURNS_FROM_CACHE: usize = 600;
 const TURNS_OF_STEPS: usize = 400;
+/// The shapes that a table gets from memory as well: the one of large frames, and d.
+const FROM_MEMORY_AT_TABLES: [usize; 2] = [0, 3];
+/// Frames of a table come in blocks of 32 for each of its cards.
+const TABLE_BLOCK: usize = 32 * CARDS;
 
 fn main() {
     if cfg!(debug_assertions) {
@@ -38,21 +46,54 @@ fn main() {
         time_card(name, steps);
     }
     time_marks();
+    println!(
+        "{:<42} {:>21} {:>21} {:>21} {:>8} {:>8}",
+        "ns: best (median)", "plain table", "proved table", "proved host", "to plain", "to host"
+    );
+    let all = [
+        ("place 0", Cards::At(0)),
+        ("place 15", Cards::At(CARDS - 1)),
+        ("in turn", Cards::InTurn),
+    ];
+    for (index, shape) in SHAPES.iter().enumerate() {
+        for (name, cards) in all {
+            if FROM_MEMORY_AT_TABLES.contains(&index) {
+                let arrivals = FROM_MEMORY / shape.size() / TABLE_BLOCK * TABLE_BLOCK;
+                let numbers = [arrivals, 1, TURNS_FROM_MEMORY];
+                time_table(shape, name, cards, numbers, "memory");
+            }
+            let numbers = [FROM_CACHE, 8, TURNS_FROM_CACHE];
+            time_table(shape, name, cards, numbers, "cache");
+        }
+    }
+    time_changes();
 }
 
-/// Something to be timed: a turn, which gives a sum of what it got.
-type Turn<'a> = Box<dyn FnMut() -> u64 + 'a>;
+/// Whether a line is to be timed.
+fn is_wanted(name: &str) -> bool {
+    env::args().nth(1).is_none_or(|part| name.contains(&part))
+}
 
-/// Lets the turns of all take place one after another, so many times, and prints a line.
-/// `each` is how many frames or steps one turn has.
-fn time(name: &str, each: usize, turns: usize, expected: Option<u64>, timed: &mut [Turn]) {
+/// Something to be timed.
+type Turn<'a> = Box<dyn Timed + 'a>;
+
+/// Lets the turns of all take place one after another, so many times, and gives the best and
+/// the median time of each. `each` is how many frames or steps one turn has.
+fn measure(
+    name: &str,
+    each: usize,
+    turns: usize,
+    expected: Option<u64>,
+    timed: &mut [Turn],
+) -> Vec<(f64, f64)> {
     let mut times = vec![Vec::with_capacity(turns); timed.len()];
     // The first turn warms up and is not counted.
     for turn in 0..=turns {
         let mut sums = Vec::with_capacity(timed.len());
         for (run, times) in timed.iter_mut().zip(&mut times) {
+            run.ready();
             let start = Instant::now();
-            sums.push(run());
+            sums.push(run.turn());
             let time = start.elapsed().as_nanos() as f64 / each as f64;
             if turn > 0 {
                 times.push(time);
@@ -61,26 +102,91 @@ fn time(name: &str, each: usize, turns: usize, expected: Option<u64>, timed: &mu
         let expected = expected.unwrap_or(sums[0]);
         assert!(sums.iter().all(|sum| *sum == expected), "{name}: {sums:?}");
     }
-    let results: Vec<(f64, f64)> = times
+    times
         .into_iter()
         .map(|mut times| {
             times.sort_by(f64::total_cmp);
             (times[0], times[times.len() / 2])
         })
-        .collect();
+        .collect()
+}
+
+fn line_of(name: &str, results: &[(f64, f64)]) -> String {
     let mut line = format!("{name:<42}");
-    for (best, median) in &results {
+    for (best, median) in results {
         line += &format!(" {best:>10.1} ({median:>8.1})");
     }
+    line
+}
+
+/// Measures, and prints a line with the ratio of the second to the first.
+fn time(name: &str, each: usize, turns: usize, expected: Option<u64>, timed: &mut [Turn]) {
+    let results = measure(name, each, turns, expected, timed);
+    let mut line = line_of(name, &results);
     if let [plain, proved] = results[..] {
         line += &format!(" {:>5.2} ({:.2})", proved.0 / plain.0, proved.1 / plain.1);
     }
     println!("{line}");
 }
 
+/// The same with the best times' ratios of the second to the first and to the third.
+fn time_three(name: &str, each: usize, turns: usize, expected: u64, timed: &mut [Turn]) {
+    let results = measure(name, each, turns, Some(expected), timed);
+    let mut line = line_of(name, &results);
+    if let [plain, proved, host] = results[..] {
+        line += &format!(" {:>8.2} {:>8.2}", proved.0 / plain.0, proved.0 / host.0);
+    }
+    println!("{line}");
+}
+
+/// So many frames in so many passes, for so many turns.
+fn time_table(shape: &Shape, name: &str, cards: Cards, numbers: [usize; 3], from: &str) {
+    let [arrivals, passes, turns] = numbers;
+    let letter = &shape.name[..1];
+    let name = format!("table, {letter}, {name}, {from}");
+    if !is_wanted(&name) {
+        return;
+    }
+    let frames = shape.frames_of(cards, arrivals);
+    let given = Given {
+        frames: &frames,
+        size: shape.size(),
+        cards,
+        passes,
+    };
+    let mut timed: Vec<Turn> = vec![Box::new(TableRun::<plain::table::Table>::new(given))];
+    #[cfg(feature = "proved")]
+    {
+        use bench::ends::proved::{Host, Table};
+        use bench::tables::{HostRun, compare};
+        compare::<plain::table::Table, Table>(given);
+        timed.push(Box::new(TableRun::<Table>::new(given)));
+        timed.push(Box::new(HostRun::<Host>::new(given)));
+    }
+    let expected = passes as u64 * shape.accepted_bytes(arrivals);
+    time_three(&name, arrivals * passes, turns, expected, &mut timed);
+}
+
+/// A card registers and is removed; beside it a host is opened, which clears one pair.
+fn time_changes() {
+    let name = "table, registering and removing; opening";
+    if !is_wanted(name) {
+        return;
+    }
+    let mut timed: Vec<Turn> = vec![Box::new(ChangeRun::<plain::table::Table>::new())];
+    #[cfg(feature = "proved")]
+    {
+        use bench::ends::proved::{Host, Table};
+        use bench::tables::OpenRun;
+        timed.push(Box::new(ChangeRun::<Table>::new()));
+        timed.push(Box::new(OpenRun::<Host>::new()));
+    }
+    time_three(name, CHANGES, TURNS_OF_STEPS, 0, &mut timed);
+}
+
 /// Lets a fresh host have all the frames; gives the data bytes of the accepted ones.
 fn receive_all<H: HostEnd>(frames: &[u8], size: usize, memory: &mut [u8]) -> u64 {
-    let mut host = H::fresh();
+    let mut host = H::fresh(FIRST_SOURCE);
     let mut answer = H::Answer::default();
     let mut total = 0;
     for frame in frames.chunks_exact(size) {
@@ -101,6 +207,10 @@ fn host_turn<'a, H: HostEnd>(frames: &'a [u8], size: usize, calls: usize) -> Tur
 fn time_host(shape: &Shape, frames: &[u8], calls: usize, turns: usize, from: &str) {
     let size = shape.size();
     let arrivals = frames.len() / size;
+    let name = format!("host, {}, {from}", shape.name);
+    if !is_wanted(&name) {
+        return;
+    }
     let mut timed = vec![host_turn::<plain::host::Host>(frames, size, calls)];
     #[cfg(feature = "proved")]
     {
@@ -109,14 +219,13 @@ fn time_host(shape: &Shape, frames: &[u8], calls: usize, turns: usize, from: &st
         timed.push(host_turn::<Host>(frames, size, calls));
     }
     let expected = calls as u64 * shape.accepted_bytes(arrivals);
-    let name = format!("host, {}, {from}", shape.name);
     time(&name, arrivals * calls, turns, Some(expected), &mut timed);
 }
 
 /// Holds two hosts to the same answers and memory.
 #[cfg(feature = "proved")]
 fn compare_hosts<A: HostEnd, B: HostEnd>(frames: &[u8], size: usize) {
-    let (mut one, mut other) = (A::fresh(), B::fresh());
+    let (mut one, mut other) = (A::fresh(FIRST_SOURCE), B::fresh(FIRST_SOURCE));
     let mut memories = [vec![0; MEMORY], vec![0; MEMORY]];
     let (mut answer, mut second) = (A::Answer::default(), B::Answer::default());
     for (index, frame) in frames.chunks_exact(size).enumerate() {
@@ -149,6 +258,10 @@ fn card_turn<'a, C: CardEnd + 'a>(steps: Steps) -> Turn<'a> {
 }
 
 fn time_card(name: &str, steps: Steps) {
+    let name = format!("card, {name}");
+    if !is_wanted(&name) {
+        return;
+    }
     let mut timed = vec![card_turn::<plain::card::Card>(steps)];
     #[cfg(feature = "proved")]
     {
@@ -161,17 +274,15 @@ fn time_card(name: &str, steps: Steps) {
         );
         timed.push(card_turn::<Card>(steps));
     }
-    time(
-        &format!("card, {name}"),
-        steps.times(),
-        TURNS_OF_STEPS,
-        None,
-        &mut timed,
-    );
+    time(&name, steps.times(), TURNS_OF_STEPS, None, &mut timed);
 }
 
 /// Counts the set marks that words begin with, of all lengths, without a pattern.
 fn time_marks() {
+    let name = "marks, the run of a word";
+    if !is_wanted(name) {
+        return;
+    }
     let words: Vec<u64> = (0u64..4_096)
         .map(|place| !(1u64 << (place.wrapping_mul(2_654_435_761) >> 7) % 64))
         .collect();
@@ -196,13 +307,7 @@ fn time_marks() {
         };
         timed.push(Box::new(proved));
     }
-    time(
-        "marks, the run of a word",
-        words.len(),
-        TURNS_OF_STEPS,
-        None,
-        &mut timed,
-    );
+    time(name, words.len(), TURNS_OF_STEPS, None, &mut timed);
 }
 
 /// All that a card gives in some turns, and the slots that it leaves.

@@ -7,6 +7,7 @@
 use reference::calls::{self, digest, hex};
 use reference::cases::WHOLE_CASE;
 use reference::ends::Sound;
+use reference::host::Host;
 use reference::wire::{Message, ack_frame, write_frame};
 use std::path::Path;
 use std::{env, fs};
@@ -62,6 +63,8 @@ fn main() {
     host(&mut script);
     runs(&mut script);
     stored(&mut script);
+    table(&mut script);
+    full_table(&mut script);
     questions(&mut script);
     no_form(&mut script);
     marks(&mut script);
@@ -82,7 +85,7 @@ fn main() {
     println!("{} lines", output.lines().count());
 }
 
-/// Both ends as a refused opening leaves them, with no bytes lent.
+/// Both ends and the table as a refused opening leaves them, with no bytes lent.
 fn before_opening(script: &mut Script) {
     let empty = digest(&[]);
     let bare = hex(&write_frame(0, 0, 0, &[message(0, 0, &[])]));
@@ -104,6 +107,11 @@ fn before_opening(script: &mut Script) {
         ("receive -", "R 1 place 0"),
         (&format!("receive {bare}"), "R 12 place 0"),
         ("receive 00000000000000000000", "N"),
+        ("tablestate", "own 0"),
+        ("register 2 0 1 1", "R 13"),
+        ("remove 2", "R 3"),
+        ("adopt 0 1 1", "R 13"),
+        ("deliver 0 00000000000000000000", "R 3 place 0"),
     ]);
     for number in 0..32 {
         script.line("open 1 0 0", &format!("t {number}"));
@@ -428,6 +436,124 @@ fn stored(script: &mut Script) {
     script.line("restore -", "R 15");
 }
 
+/// A message of four bytes that completes its transaction.
+fn whole(transaction: u32, address: u32, completion: u32) -> Message<'static> {
+    Message {
+        transaction,
+        completion_address: completion,
+        completion_value: 0x1122_3344,
+        count: 1,
+        data_address: address,
+        data: &[0x0a, 0x0b, 0x0c, 0x0d],
+    }
+}
+
+fn deliver(script: &mut Script, lent: usize, frame: &[u8], answer: &str) {
+    script.line(&format!("deliver {lent} {}", hex(frame)), answer);
+}
+
+/// A table of two cards, whose regions touch in a memory of 100 bytes.
+fn table(script: &mut Script) {
+    script.lines(&[
+        ("table 0 100", "R 13"),
+        ("register 2 60 40 100", "R 13"),
+        ("tablestate", "own 0"),
+        ("table 1 100", "ok"),
+        ("tablestate", "own 1"),
+        ("remove 2", "R 3"),
+        ("take 2", "R 3"),
+        ("register 0 60 40 100", "R 13"),
+        ("register 2 60 0 100", "R 31"),
+        ("register 2 61 40 100", "R 31"),
+        ("register 2 18446744073709551615 2 100", "R 31"),
+        ("register 2 60 40 99", "R 31"),
+        ("register 2 60 40 100", "ok"),
+        ("register 2 0 10 100", "R 30"),
+        ("register 3 20 41 100", "R 29"),
+        ("register 3 20 40 100", "ok"),
+        ("tablestate", "own 1 [3 20 40] [2 60 40]"),
+    ]);
+    // Data ends with the region, and the completion starts with it.
+    let mut memory = [0; 100];
+    for (source, first) in [(2, 60), (3, 20)] {
+        let frame = write_frame(1, source, 0, &[whole(0, 36, 0)]);
+        let ack = hex(&ack_frame(source, 1, 0, 0, 1));
+        deliver(script, 100, &frame, &format!("A 0 1 4 1 run 1 ack {ack}"));
+        memory[first..first + 4].copy_from_slice(&[0x44, 0x33, 0x22, 0x11]);
+        memory[first + 36..first + 40].copy_from_slice(&[0x0a, 0x0b, 0x0c, 0x0d]);
+        script.line("memory", &digest(&memory));
+        deliver(script, 100, &frame, &format!("G 0 run 1 ack {ack}"));
+        let past = write_frame(1, source, 1, &[whole(1, 37, 0)]);
+        deliver(script, 100, &past, "R 11 place 0");
+        let past = write_frame(1, source, 1, &[whole(1, 0, 37)]);
+        deliver(script, 100, &past, "R 12 place 0");
+        deliver(script, 100, &write_frame(1, source, 1, &[]), "N");
+    }
+    // A memory that ends with the region is enough, and one byte less is not.
+    let frame = write_frame(1, 3, 1, &[whole(1, 36, 0)]);
+    let ack = hex(&ack_frame(3, 1, 0, 1, 1));
+    deliver(script, 59, &frame, "R 31 place 0");
+    deliver(script, 59, &frame[..frame.len() - 1], "R 31 place 0");
+    deliver(script, 59, &frame[..9], "R 1 place 0");
+    deliver(script, 60, &frame, &format!("A 1 1 4 1 run 1 ack {ack}"));
+    deliver(script, 99, &write_frame(1, 2, 1, &[]), "R 31 place 0");
+    deliver(script, 0, &write_frame(1, 4, 1, &[]), "R 3 place 0");
+    deliver(script, 100, &write_frame(2, 3, 1, &[]), "R 3 place 0");
+    script.line("memory", &digest(&memory));
+    let pair = "own 1 peer 3 next 2 marks 0000000000000000 lowest 2 closed 00000000";
+    script.lines(&[
+        ("take 4", "R 3"),
+        ("take 3", "ok"),
+        ("state", pair),
+        ("adopt 0 20 100", "R 30"),
+        ("remove 3", "ok"),
+        ("remove 3", "R 3"),
+        ("adopt 0 0 100", "R 31"),
+        ("adopt 50 11 100", "R 29"),
+        ("adopt 0 40 100", "ok"),
+        ("tablestate", "own 1 [3 0 40] [2 60 40]"),
+    ]);
+    deliver(script, 40, &frame, &format!("G 1 run 1 ack {ack}"));
+    let other = Host::starting_at(9, 5, 0, 0).text();
+    script.line(&format!("restore {}", hex(other.as_bytes())), "ok");
+    script.line("adopt 40 10 100", "R 13");
+}
+
+/// Fourteen more cards of one byte each, and one more in place of a removed one.
+fn full_table(script: &mut Script) {
+    let mut cards = "own 1 [3 0 40]".to_string();
+    for source in 4..18 {
+        let first = 36 + source;
+        script.line(&format!("register {source} {first} 1 100"), "ok");
+        cards += &format!(" [{source} {first} 1]");
+    }
+    cards += " [2 60 40]";
+    let pair = Host::starting_at(1, 40, 7, 9).text();
+    script.lines(&[
+        ("tablestate", &cards),
+        ("register 40 54 6 100", "R 28"),
+        ("register 40 53 6 100", "R 29"),
+        ("register 40 60 41 100", "R 31"),
+        ("register 17 60 41 100", "R 30"),
+        ("register 0 60 41 100", "R 13"),
+        (&format!("restore {}", hex(pair.as_bytes())), "ok"),
+        ("adopt 54 6 100", "R 28"),
+        ("remove 4", "ok"),
+        ("adopt 54 6 100", "ok"),
+        ("take 40", "ok"),
+        (
+            "state",
+            "own 1 peer 40 next 7 marks 0000000000000000 lowest 9 closed 00000000",
+        ),
+        ("register 4 40 1 100", "R 28"),
+        ("remove 17", "ok"),
+        ("register 4 40 1 100", "ok"),
+        ("table 2 1", "ok"),
+        ("tablestate", "own 2"),
+        ("memory", &digest(&[0])),
+    ]);
+}
+
 fn questions(script: &mut Script) {
     let whole = hex(&WHOLE_CASE);
     script.lines(&[
@@ -475,6 +601,17 @@ fn no_form(script: &mut Script) {
         "card 1 2 34 2176 2",
         "card 1 2 34 600001 0",
         "host 1 2 1048577",
+        "table 1",
+        "table 1 1048577",
+        "register 2 0 1",
+        "register 65536 0 1 1",
+        "register 2 0 18446744073709551616 1",
+        "remove",
+        "deliver 1",
+        "deliver 1 0",
+        "take 65536",
+        "adopt 0 1",
+        "tablestate 1",
         "class 4294967296",
         "layout",
         "hello",

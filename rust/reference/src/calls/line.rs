@@ -3,6 +3,7 @@
 //! one of the forms, or past a limit, is none.
 
 use crate::replay;
+use crate::table::Region;
 
 /// Characters of a line at most.
 pub const LONGEST_LINE: usize = 200_000;
@@ -48,6 +49,26 @@ pub enum Line {
     State,
     Store(usize),
     Restore(Vec<u8>),
+    Table {
+        own: u16,
+        memory: usize,
+    },
+    Register {
+        source: u16,
+        region: Region,
+        memory: u64,
+    },
+    Remove(u16),
+    Deliver {
+        memory: u64,
+        frame: Vec<u8>,
+    },
+    Take(u16),
+    Adopt {
+        region: Region,
+        memory: u64,
+    },
+    TableState,
 }
 
 impl Line {
@@ -100,6 +121,26 @@ impl Line {
                 Some(Line::Store(length))
             }
             (b"restore", [text]) => Some(Line::Restore(bytes(text)?)),
+            (b"table", [own, memory]) => Some(Line::Table {
+                own: number(own)?,
+                memory: number(memory).filter(|memory| *memory <= MOST_MEMORY)?,
+            }),
+            (b"register", [source, first, length, memory]) => Some(Line::Register {
+                source: number(source)?,
+                region: region(first, length)?,
+                memory: number(memory)?,
+            }),
+            (b"remove", [source]) => Some(Line::Remove(number(source)?)),
+            (b"deliver", [memory, frame]) => Some(Line::Deliver {
+                memory: number(memory)?,
+                frame: bytes(frame)?,
+            }),
+            (b"take", [source]) => Some(Line::Take(number(source)?)),
+            (b"adopt", [first, length, memory]) => Some(Line::Adopt {
+                region: region(first, length)?,
+                memory: number(memory)?,
+            }),
+            (b"tablestate", []) => Some(Line::TableState),
             _ => None,
         }
     }
@@ -115,6 +156,14 @@ fn number<T: TryFrom<u64>>(word: &[u8]) -> Option<T> {
         value.checked_mul(10)?.checked_add(digit)
     })?;
     T::try_from(value).ok()
+}
+
+/// Any two 64-bit numbers.
+fn region(first: &[u8], length: &[u8]) -> Option<Region> {
+    Some(Region {
+        first: number(first)?,
+        length: number(length)?,
+    })
 }
 
 /// Bytes in hexadecimal; a word of no digits is not a way to say that there are none.

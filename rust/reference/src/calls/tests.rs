@@ -71,7 +71,7 @@ fn lines_of_no_form_change_nothing() {
     program.line(b"card 2 1 34 2176 0");
     program.line(b"host 1 2 100");
     let long = [b"receive ".to_vec(), vec![b'0'; LONGEST_LINE - 7]].concat();
-    let bad: [&[u8]; 33] = [
+    let bad: [&[u8]; 43] = [
         b"",
         b" ",
         b"seal ",
@@ -104,6 +104,16 @@ fn lines_of_no_form_change_nothing() {
         b"marks 18446744073709551616",
         b"marks",
         b"marks -",
+        b"table 1",
+        b"table 1 1048577",
+        b"register 2 0 1",
+        b"register 65536 0 1 1",
+        b"register 2 0 1 18446744073709551616",
+        b"remove 65536",
+        b"deliver 1",
+        b"deliver 18446744073709551616 -",
+        b"adopt 0 1",
+        b"tablestate 1",
         &long,
     ];
     for line in bad {
@@ -160,4 +170,110 @@ fn the_state_tells_marks_and_open_transactions() {
     let expected = "own 1 peer 2 next 0 marks 8000000000000002 lowest 0 closed 00000006 \
                     [0 4 5 3 1 0] [31 4 5 9 2 0]";
     assert_eq!(program.line(b"state"), expected);
+}
+
+/// Two cards with the whole case's frame each, and every line about a table.
+#[test]
+fn a_table() {
+    let frame = |source: u16| {
+        let mut frame = WHOLE_CASE;
+        frame[2..4].copy_from_slice(&source.to_le_bytes());
+        hex(&frame)
+    };
+    let (two, three) = (frame(2), frame(3));
+    let own = "own 1 peer 2 next 1 marks 0000000000000000 lowest 1 closed 00000000";
+    let fresh = answers(&["state"]);
+    let cases: [(&str, &str); 37] = [
+        ("tablestate", "own 0"),
+        ("register 2 0 1 1", "R 13"),
+        ("remove 2", "R 3"),
+        ("take 2", "R 3"),
+        ("adopt 0 1 1", "R 13"),
+        (&format!("deliver 0 {two}"), "R 3 place 0"),
+        ("table 0 9", "R 13"),
+        ("memory", &digest(&[0; 9])),
+        ("table 1 200", "ok"),
+        ("memory", &digest(&[0; 200])),
+        ("register 2 100 68 200", "ok"),
+        ("register 0 0 1 200", "R 13"),
+        ("register 2 0 1 200", "R 30"),
+        ("register 3 0 0 200", "R 31"),
+        ("register 3 2 18446744073709551615 200", "R 31"),
+        ("register 3 0 101 200", "R 29"),
+        ("register 3 0 100 99", "R 31"),
+        ("register 3 0 100 100", "ok"),
+        ("tablestate", "own 1 [3 0 100] [2 100 68]"),
+        (&format!("deliver 167 {two}"), "R 31 place 0"),
+        (
+            &format!("deliver 168 {two}"),
+            "A 0 1 4 1 run 1 ack 02000100000000000100",
+        ),
+        (
+            &format!("deliver 18446744073709551615 {two}"),
+            "G 0 run 1 ack 02000100000000000100",
+        ),
+        (
+            &format!("deliver 100 {three}"),
+            "A 0 1 4 1 run 1 ack 03000100000000000100",
+        ),
+        ("deliver 200 -", "R 1 place 0"),
+        ("take 4", "R 3"),
+        ("state", &fresh[0]),
+        ("take 2", "ok"),
+        ("state", own),
+        ("adopt 168 1 200", "R 30"),
+        ("remove 2", "ok"),
+        ("remove 2", "R 3"),
+        (&format!("deliver 200 {two}"), "R 3 place 0"),
+        ("adopt 99 68 200", "R 29"),
+        ("adopt 101 68 200", "ok"),
+        ("tablestate", "own 1 [3 0 100] [2 101 68]"),
+        (
+            &format!("deliver 200 {two}"),
+            "G 0 run 1 ack 02000100000000000100",
+        ),
+        ("state", own),
+    ];
+    let (lines, expected): (Vec<&str>, Vec<&str>) = cases.into_iter().unzip();
+    assert_eq!(answers(&lines), expected);
+    let mut program = Program::new(Sound);
+    for line in lines {
+        program.line(line.as_bytes());
+    }
+    let mut memory = [0; 200];
+    for first in [0, 100] {
+        memory[first..first + 4].copy_from_slice(&[0x0a, 0x0b, 0x0c, 0x0d]);
+        memory[first + 64..first + 68].copy_from_slice(&[0x44, 0x33, 0x22, 0x11]);
+    }
+    assert_eq!(program.memory(), memory);
+    // The host's memory is the same one.
+    assert_eq!(program.line(b"host 5 6 3"), "ok");
+    assert_eq!(program.line(b"memory"), digest(&[0; 3]));
+    let short = format!("deliver 200 {two}");
+    assert_eq!(program.line(short.as_bytes()), "R 31 place 0");
+    assert_eq!(program.line(b"adopt 169 1 200"), "R 13");
+}
+
+/// Sixteen cards of three bytes, and one more.
+#[test]
+fn a_full_table() {
+    let mut program = Program::new(Sound);
+    program.line(b"table 9 1000");
+    for card in 0..16 {
+        let line = format!("register {} {} 3 48", 20 + card, 3 * card);
+        assert_eq!(program.line(line.as_bytes()), "ok");
+    }
+    for (line, answer) in [
+        ("register 2 48 1 49", "R 28"),
+        ("register 2 47 1 49", "R 29"),
+        ("register 2 48 1 48", "R 31"),
+        ("remove 35", "ok"),
+        ("register 2 45 4 49", "ok"),
+        ("restore 30", "R 15"),
+        ("adopt 49 1 50", "R 13"),
+        ("host 9 3 50", "ok"),
+        ("adopt 49 1 50", "R 28"),
+    ] {
+        assert_eq!(program.line(line.as_bytes()), answer, "{line}");
+    }
 }
