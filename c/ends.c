@@ -1255,11 +1255,15 @@ static void check_names(void)
     CHECK_NAME(15, BAD_TEXT, NONE);
     CHECK_NAME(17, REPLAY_CLOSED, NONE);
     CHECK_NAME(19, BUFFER_SHORT, NONE);
+    CHECK_NAME(28, TABLE_FULL, NONE);
+    CHECK_NAME(29, REGION_OVERLAPS, NONE);
+    CHECK_NAME(30, SOURCE_REGISTERED, NONE);
+    CHECK_NAME(31, REGION_OUTSIDE_MEMORY, NONE);
     check("none", 0, strcmp(lw_refusal_name(0), "none") == 0, 1);
     for (uint32_t number = 1; number < 300; number++)
-        check("unknown exactly without a class, and not 15, 17 or 19", number,
+        check("unknown exactly without a class, and none of those above", number,
               strcmp(lw_refusal_name(number), "unknown") == 0,
-              number != 15 && number != 17 && number != 19 &&
+              number != 15 && number != 17 && number != 19 && (number < 28 || number > 31) &&
                   lw_refusal_class(number) == LW_CLASS_NONE);
     check("unknown", 0, strcmp(lw_refusal_name(UINT32_MAX), "unknown") == 0, 1);
     end_group("names of refusals");

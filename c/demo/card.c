@@ -2,8 +2,9 @@
  * The card of the demonstration: opens transactions of a few messages each, adds
  * these to frames, seals and sends them, and sends what is not acknowledged again
  * by a clock, until the wanted number of frames is sealed and all of them are
- * acknowledged. Keeps what the host's memory has to be then, and prints its bill.
- * It ends with status 1 if the host stays silent or the time is up.
+ * acknowledged. Keeps what the host's memory, or its region of it, has to be then,
+ * and prints its bill. With several cards each is given its ID. It ends with status 1
+ * if the host stays silent or the time is up.
  */
 #define _POSIX_C_SOURCE 200809L
 
@@ -33,6 +34,7 @@ struct work {
 
 struct sender {
     lw_card card;
+    uint32_t id; /* one of several cards has it given, otherwise 0 */
     uint8_t slots[LW_SLOTS_SIZE(FRAME_LIMIT)];
     int socket;
     struct sockaddr_in relay;
@@ -51,8 +53,8 @@ struct sender {
     uint64_t heard; /* when the latest one came */
 
     struct bill bill;
-    uint8_t memory[MOST_MEMORY]; /* what the host's has to be */
-    uint32_t memory_size;        /* as much of it as the host has */
+    uint8_t memory[MOST_MEMORY]; /* what the host's has to be, or this card's region */
+    uint32_t memory_size;        /* as much of it as there is */
 };
 
 /* ---- Sending ----------------------------------------------------------- */
@@ -251,15 +253,25 @@ static void read_all(struct sender *sender)
 
 static void report(const struct sender *sender)
 {
-    print_bill(&sender->bill, sender->memory, sender->memory_size);
+    print_bill("", &sender->bill, sender->memory, sender->memory_size);
     printf("sealed %" PRIu64 "\nsent %" PRIu64 "\nsent-again %" PRIu64 "\nacknowledgements %" PRIu64
            "\n",
            sender->sealed, sender->sent, sender->sent_again, sender->acknowledgements);
 }
 
+/* Says who is speaking. */
+static void say_name(const struct sender *sender)
+{
+    if (sender->id == 0)
+        fprintf(stderr, "card: ");
+    else
+        fprintf(stderr, "card %" PRIu32 ": ", sender->id);
+}
+
 static void show_progress(const struct sender *sender)
 {
-    fprintf(stderr, "card: %" PRIu64 " of %" PRIu32 " frames sealed, %" PRIu64 " datagrams sent again\n",
+    say_name(sender);
+    fprintf(stderr, "%" PRIu64 " of %" PRIu32 " frames sealed, %" PRIu64 " datagrams sent again\n",
             sender->sealed, sender->frames, sender->sent_again);
 }
 
@@ -300,6 +312,7 @@ int main(int argc, char **argv)
     uint32_t relay = 0;
     const struct option options[] = {
         {"relay", &relay, 1, UINT16_MAX},
+        {"id", &sender.id, CARD_ID, CARD_ID + LW_TABLE_CARDS - 1},
         {"seed", &sender.seed, 0, UINT32_MAX},
         {"frames", &sender.frames, 0, 10000000},
         {"seconds", &sender.seconds, 1, 1000000},
@@ -309,16 +322,20 @@ int main(int argc, char **argv)
     read_options(argc, argv, options, sizeof options / sizeof options[0]);
     sender.relay = local_address((uint16_t)relay);
     sender.socket = open_socket(&port);
-    const uint32_t refusal = lw_card_open(&sender.card, CARD_ID, HOST_ID, FRAME_LIMIT, sender.slots,
+    const uint16_t own = sender.id == 0 ? CARD_ID : (uint16_t)sender.id;
+    const uint32_t refusal = lw_card_open(&sender.card, own, HOST_ID, FRAME_LIMIT, sender.slots,
                                           sizeof sender.slots);
     if (refusal != LW_NOT_REFUSED) {
-        fprintf(stderr, "card: not opened: %s\n", lw_refusal_name(refusal));
+        say_name(&sender);
+        fprintf(stderr, "not opened: %s\n", lw_refusal_name(refusal));
         return EXIT_FAILURE;
     }
 
     const char *const trouble = run(&sender);
-    if (trouble != NULL)
-        fprintf(stderr, "card: given up: %s\n", trouble);
+    if (trouble != NULL) {
+        say_name(&sender);
+        fprintf(stderr, "given up: %s\n", trouble);
+    }
     report(&sender);
     return trouble == NULL && fflush(stdout) == 0 && !ferror(stdout) ? EXIT_SUCCESS : EXIT_FAILURE;
 }

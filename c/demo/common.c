@@ -140,14 +140,14 @@ uint32_t random_below(uint64_t *seed, uint32_t limit)
     return (uint32_t)(next_random(seed) % limit);
 }
 
-void print_bill(const struct bill *bill, const uint8_t *memory, size_t size)
+void print_bill(const char *prefix, const struct bill *bill, const uint8_t *memory, size_t size)
 {
     /* FNV-1a of 64 bits. */
     uint64_t digest = 0xcbf29ce484222325;
 
     for (size_t i = 0; i < size; i++)
         digest = (digest ^ memory[i]) * 0x100000001b3;
-    printf("messages %" PRIu64 "\nbytes %" PRIu64 "\ntransactions %" PRIu64 "\nmemory %016" PRIx64
-           "\n",
-           bill->messages, bill->bytes, bill->transactions, digest);
+    printf("%smessages %" PRIu64 "\n%sbytes %" PRIu64 "\n%stransactions %" PRIu64
+           "\n%smemory %016" PRIx64 "\n",
+           prefix, bill->messages, prefix, bill->bytes, prefix, bill->transactions, prefix, digest);
 }

@@ -1,6 +1,6 @@
 /*
- * What the three programs of the demonstration share: the pair they are set up
- * for, UDP sockets on 127.0.0.1, a clock, seeded numbers, and options. None of it
+ * What the three programs of the demonstration share: the IDs they are set up
+ * with, UDP sockets on 127.0.0.1, a clock, seeded numbers, and options. None of it
  * belongs to the library, which knows neither sockets nor time.
  */
 #ifndef DEMO_COMMON_H
@@ -16,7 +16,7 @@
 
 enum {
     HOST_ID = 1,
-    CARD_ID = 2,
+    CARD_ID = 2, /* of the first card; the others follow */
 
     /* In a UDP datagram the frame header starts after two bytes, which are ignored. */
     PREFIX = 2,
@@ -26,7 +26,7 @@ enum {
     /* Room for any frame that is read, and a byte more: one that is too long is seen to be. */
     RECEIVED = PREFIX + LW_LONGEST_FRAME + 1,
 
-    /* The host's memory is parted into blocks: each transaction writes into one, and
+    /* The memory that a card writes to is parted into blocks: each transaction writes into one, and
      * its completion into the block's last bytes. There are twice as many blocks as
      * transactions can be under way, so that nothing is written over before it is
      * complete. A block has room for a completion, at least. */
@@ -82,7 +82,7 @@ uint64_t now(void);
 uint64_t next_random(uint64_t *seed);
 uint32_t random_below(uint64_t *seed, uint32_t limit);
 
-/* Prints the bill and a digest of the memory. */
-void print_bill(const struct bill *bill, const uint8_t *memory, size_t size);
+/* Prints the bill and a digest of the memory, each line with this prefix. */
+void print_bill(const char *prefix, const struct bill *bill, const uint8_t *memory, size_t size);
 
 #endif

@@ -1,8 +1,10 @@
 /*
- * The network of the demonstration: hands datagrams on between card and host, and
+ * The network of the demonstration: hands datagrams on between cards and host, and
  * on the way loses, repeats, delays and so reorders some of both directions, as a
- * seed decides. It does not look into them. Prints `port NUMBER` at the start, where
- * the card sends to, and, when it is told to end by SIGTERM, what it did.
+ * seed decides. Of what is in them it looks at the IDs only: a card's datagrams tell
+ * where it is, and what comes back goes to the card that is its destination. Prints
+ * `port NUMBER` at the start, where the cards send to, and, when it is told to end by
+ * SIGTERM, what it did.
  */
 #define _POSIX_C_SOURCE 200809L
 
@@ -31,6 +33,7 @@ struct options {
 struct datagram {
     uint64_t due;
     uint64_t order; /* how many arrived before it */
+    struct sockaddr_in to;
     size_t length;
     uint8_t bytes[LONGEST_DATAGRAM];
 };
@@ -40,7 +43,6 @@ struct direction {
     const char *name;
     int in;
     int out;
-    struct sockaddr_in to;
     struct datagram delayed[MOST_DELAYED];
     size_t waiting;
     uint64_t arrived;
@@ -55,6 +57,8 @@ struct direction {
 struct relay {
     struct direction to_host;
     struct direction to_card;
+    struct sockaddr_in host;
+    struct sockaddr_in cards[LW_TABLE_CARDS]; /* where the latest datagram of each came from */
     struct options options;
     uint64_t seed;
 };
@@ -67,7 +71,7 @@ static bool happens(struct relay *relay, uint32_t per_cent)
 static void send_on(struct direction *direction, const struct datagram *datagram)
 {
     (void)sendto(direction->out, datagram->bytes, datagram->length, 0,
-                 (const struct sockaddr *)&direction->to, sizeof direction->to);
+                 (const struct sockaddr *)&datagram->to, sizeof datagram->to);
     direction->sent++;
     if (datagram->order < direction->latest)
         direction->reordered++;
@@ -101,9 +105,42 @@ static void take(struct relay *relay, struct direction *direction, struct datagr
     pass(relay, direction, datagram);
 }
 
-/* Takes all datagrams that have arrived; false if there was none. Answers go where
- * the latest one came from. */
-static bool take_all(struct relay *relay, struct direction *direction, struct direction *back)
+/* Where the card is whose ID stands at this place of a datagram's frame, the source or
+ * the destination; NULL if it is no card's. */
+static struct sockaddr_in *card_of(struct relay *relay, const struct datagram *datagram, size_t at)
+{
+    const uint8_t *id = datagram->bytes + PREFIX + at;
+
+    if (datagram->length < PREFIX + LW_FRAME_HEADER)
+        return NULL;
+    const unsigned number = id[0] | (unsigned)id[1] << 8;
+    if (number < CARD_ID || number >= CARD_ID + LW_TABLE_CARDS)
+        return NULL;
+    return &relay->cards[number - CARD_ID];
+}
+
+/* Finds out where a datagram goes; false if that is nowhere. */
+static bool address(struct relay *relay, const struct direction *direction,
+                    struct datagram *datagram, const struct sockaddr_in *from)
+{
+    enum { DESTINATION = 0, SOURCE = 2 };
+
+    if (direction == &relay->to_host) {
+        struct sockaddr_in *const card = card_of(relay, datagram, SOURCE);
+        if (card != NULL)
+            *card = *from;
+        datagram->to = relay->host;
+        return true;
+    }
+    const struct sockaddr_in *const card = card_of(relay, datagram, DESTINATION);
+    if (card == NULL || card->sin_port == 0)
+        return false;
+    datagram->to = *card;
+    return true;
+}
+
+/* Takes all datagrams that have arrived; false if there was none. */
+static bool take_all(struct relay *relay, struct direction *direction)
 {
     static struct datagram datagram;
     struct sockaddr_in from;
@@ -116,9 +153,9 @@ static bool take_all(struct relay *relay, struct direction *direction, struct di
         if (length < 0)
             return any;
         any = true;
-        back->to = from;
         datagram.length = (size_t)length;
-        take(relay, direction, &datagram);
+        if (address(relay, direction, &datagram, &from))
+            take(relay, direction, &datagram);
     }
 }
 
@@ -166,8 +203,8 @@ static void run(struct relay *relay)
         const uint64_t next = one < other ? one : other;
         const uint64_t time = now();
         wait_for(sockets, 2, next > time ? next - time : 0);
-        const bool from_card = take_all(relay, to_host, to_card);
-        const bool from_host = take_all(relay, to_card, to_host);
+        const bool from_card = take_all(relay, to_host);
+        const bool from_host = take_all(relay, to_card);
         if (from_card || from_host)
             heard = now();
     }
@@ -193,7 +230,7 @@ int main(int argc, char **argv)
     relay.seed = given->seed;
     relay.to_host.in = relay.to_card.out = open_socket(&port);
     relay.to_card.in = relay.to_host.out = open_socket(&unused);
-    relay.to_host.to = local_address((uint16_t)given->host);
+    relay.host = local_address((uint16_t)given->host);
     printf("port %u\n", port);
     fflush(stdout);
 

@@ -1,16 +1,17 @@
 //! Runs the C program `calls`, which is built over the installed header, on scripts and
-//! compares every answer with the independent one: both ends' answers, the frames handed
-//! out with their place in the slots, and digests of slots and memory. `LW_SEED` and `LW_SCRIPTS` choose the first
-//! seed and the number of scripts of each kind, `LW_CALLS` another program.
+//! compares every answer with the independent one: both ends' answers, a table's, the frames
+//! handed out with their place in the slots, and digests of slots and memory. `LW_SEED` and
+//! `LW_SCRIPTS` choose the first seed and the number of scripts of each kind, `LW_CALLS`
+//! another program.
 
 mod programs;
 
 use reference::calls;
 use reference::demand::Care;
 use reference::ends::{Sound, Start};
-use reference::faults::{Fault, Faulty, FoundBy};
+use reference::faults::{Fault, Faulty, FaultyTables, FoundBy, TableFault};
 use reference::rng::Rng;
-use reference::script::{Wild, of_list};
+use reference::script::{Tables, Wild, of_list};
 use reference::settings::{count_from_env, number_from_env};
 use reference::simulator::{Profile, come_round, simulate};
 use std::collections::BTreeSet;
@@ -21,6 +22,7 @@ const STDIN: &[u8] = include_bytes!("../../../c/calls.stdin");
 const STDOUT: &str = include_str!("../../../c/calls.stdout");
 const WILD_LINES: usize = 8_000;
 const LIST_CALLS: usize = 600;
+const TABLE_LINES: usize = 6_000;
 const LONG_CALLS: usize = 400_000;
 /// The longest line that is read.
 const LONGEST: usize = 200_000;
@@ -72,6 +74,10 @@ fn wild(seed: u64) -> Vec<u8> {
     Wild::new(seed).text(WILD_LINES)
 }
 
+fn tables(seed: u64) -> Vec<u8> {
+    Tables::new(seed).text(TABLE_LINES)
+}
+
 /// A list of demand 3 from fresh ends, with digests of slots and memory in between.
 fn list(seed: u64) -> Vec<u8> {
     let profile = Profile {
@@ -115,6 +121,54 @@ fn beginning_of(line: &str) -> String {
     let words = if line.starts_with('R') { 2 } else { 1 };
     let words: Vec<&str> = line.split(' ').take(words).collect();
     words.join(" ")
+}
+
+/// Each line of a script with its answer.
+fn answered<'a>(script: &'a [u8], answers: &'a str) -> impl Iterator<Item = (&'a str, &'a str)> {
+    let script = str::from_utf8(script).expect("such scripts are letters and digits");
+    script.lines().zip(answers.lines())
+}
+
+#[test]
+fn lines_about_tables() {
+    let mut met = BTreeSet::new();
+    let mut fullest = 0;
+    for seed in seeds() {
+        let script = tables(seed);
+        let answers = assert_same(&script);
+        for (line, answer) in answered(&script, &answers) {
+            let form = line.split(' ').next().unwrap_or("");
+            met.insert(format!("{form}: {}", beginning_of(answer)));
+            if form == "tablestate" {
+                fullest = fullest.max(answer.matches('[').count());
+            }
+        }
+    }
+    // Without these an agreement could be one about next to nothing.
+    let refused = |form: &str, numbers: &[u8]| -> Vec<String> {
+        let lines = numbers.iter().map(|number| format!("{form}: R {number}"));
+        lines.collect()
+    };
+    let registering = [13, 28, 29, 30, 31];
+    let receiving = [1, 2, 3, 4, 5, 6, 7, 8, 9, 10, 11, 12, 31];
+    let wanted = [
+        refused("table", &[13]),
+        refused("register", &registering),
+        refused("adopt", &registering),
+        refused("remove", &[3]),
+        refused("take", &[3]),
+        refused("deliver", &receiving),
+        ["table", "register", "adopt", "remove", "take"]
+            .map(|form| format!("{form}: ok"))
+            .into(),
+        ["A", "G", "N"]
+            .map(|answer| format!("deliver: {answer}"))
+            .into(),
+    ];
+    let wanted = wanted.into_iter().flatten();
+    let missed: Vec<String> = wanted.filter(|wanted| !met.contains(wanted)).collect();
+    assert!(missed.is_empty(), "not met: {missed:?}");
+    assert_eq!(fullest, 16, "a table that is full is told of");
 }
 
 #[test]
@@ -200,4 +254,19 @@ fn faults_that_demand_3_lets_pass_show_in_the_answers() {
         tried += 1;
     }
     assert!(tried > 5);
+}
+
+/// What a table may get wrong is told apart by the answers.
+#[test]
+fn faults_of_tables_show_in_the_answers() {
+    let scripts: Vec<Vec<u8>> = (0..8).map(tables).collect();
+    let answers: Vec<String> = scripts.iter().map(|script| output_of(script)).collect();
+    let shows = |fault: Option<TableFault>| {
+        let mut pairs = scripts.iter().zip(&answers);
+        pairs.any(|(script, answer)| calls::output(FaultyTables(fault), script) != *answer)
+    };
+    assert!(!shows(None), "without a fault the answers are the same");
+    for fault in TableFault::ALL {
+        assert!(shows(Some(*fault)), "{fault:?}");
+    }
 }
