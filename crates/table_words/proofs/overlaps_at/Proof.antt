@@ -25,7 +25,8 @@ returns : tie.Need-returns
 returns c =
     let a = c .before .before .before .before .before .args in
     overlap-no (a .first) (a .size) _ _ (place (tableOf (a .w .now)) (a .k)) _
-    (c .before .before .before .first-at .ensures) (c .before .before .size-at .ensures) (c .before .before-end .ensures) (c .if1 .taken)
+    (c .before .before .before .first-at .ensures) (c .before .before .size-at .ensures)
+    (c .before .before-end .ensures) (c .if1 .taken)
 
 before-end-requires-2 : tie.Need-before-end-requires-2
 before-end-requires-2 c κs = search needs
