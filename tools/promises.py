@@ -8,7 +8,8 @@ write as it is at exit, with a definition, over any input. So for each `pub fn`:
 An equation whose right side speaks of the result, or of anything at exit, does not count: two of them could lean on
 each other and say nothing. Nor does one under a condition, or one of a choice. A relation that a file of specs/ defines
 counts where its definition so equates: without a condition, or in both of two cases `a ≡ b → ..` and `a ≢ b → ..`, each
-of which may be parted again; a relation that it names is read in its place. A result that is a struct is also known where every field of it is equated.
+of which may be parted again; a relation that it names is read in its place. A result that is a struct is also known
+where every field of it is equated.
 What else is needed is an exemption with its reason (EXEMPT in tools/check-claims). A function or a parameter of a form
 that is not read here is a fault, so that none goes by unread.
 """
@@ -16,7 +17,7 @@ import re
 
 # Under these functions a result or a buffer at exit may be equated: the state that words stand for. What is left open
 # then is what the words do not mean.
-MEANINGS = ("pairOf", "cardOf", "tableOf")
+MEANINGS = ("pairOf", "cardOf", "tableOf", "ledgerIn")
 # The same of several buffers that hold one state together: each is an argument.
 MEANINGS_TOGETHER = ("replayingOf",)
 
@@ -215,8 +216,8 @@ def determines(definition, at, unknown):
 
 
 def covers(where):
-    """Whether lists of conditions leave no case out: one has no condition, or the first conditions have two contrary ones
-    among them, behind each of which no case is left out."""
+    """Whether lists of conditions leave no case out: one has no condition, or two first conditions are contrary, and
+    behind each of them no case is left out."""
     heads = {c[0] for c in where if c}
     behind = {head: {c[1:] for c in where if c and c[0] == head} for head in heads}
     contrary = [(head, head.replace("≢", "≡")) for head in heads if "≢" in head]

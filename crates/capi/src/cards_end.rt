@@ -79,7 +79,8 @@ pub extern "C" fn lw_raw_table_receive(
     ensures { λ _. ⌜ now (answer .exit)
         ≡ answerWords (receivedAtTable (now (words .entry)) (now (frame .entry)) (now (memory .entry))
         .answer) ⌝ }
-    ensures { λ _. ⌜ LeavesWords (receivedAtTable (now (words .entry)) (now (frame .entry)) (now (memory .entry)) .answer)
+    ensures { λ _. ⌜ LeavesWords
+        (receivedAtTable (now (words .entry)) (now (frame .entry)) (now (memory .entry)) .answer)
         (now (words .entry)) (now (words .exit)) ⌝ }
 {
     *source = cards::source_of(frame);

@@ -17,6 +17,10 @@ use Rattle.table.specs.Table.{TableStep, TableReceived}
 use Rattle.table.specs.Adopting.{TakenOut}
 use Rattle.table.specs.TableEnd.{specifiedTable}
 use Rattle.table_words.specs.TableWords.{tableOf}
+use Rattle.ledger.specs.Ledger.{Outcome, taken}
+use Rattle.ledger_words.specs.declared.SubscriberTotal.{SubscriberTotal}
+use Rattle.ledger_words.specs.LedgerWords.{ledgerIn}
+use Rattle.ledger_words.specs.LedgerCalls.{toldTotal}
 
 -- ---- the host
 
@@ -92,3 +96,14 @@ cardTaken words source = specifiedTable .taking (tableOf words) source
 abbrev pub cardAdopted : List ℕ → List ℕ → ℕ → ℕ → ℕ → TableStep
 cardAdopted words host first size memory =
     specifiedTable .adopting (tableOf words) (pairOf host) first size memory
+
+-- ---- the subscriber ledger
+
+abbrev pub blockTaken : List ℕ → List ℕ → Outcome
+blockTaken words block = taken (ledgerIn words) block
+
+abbrev pub totalTold : List ℕ → ℕ → SubscriberTotal
+totalTold words subscriber = toldTotal (ledgerIn words) subscriber
+
+abbrev pub sumTold : List ℕ → ℕ
+sumTold words = ledgerIn words .summary

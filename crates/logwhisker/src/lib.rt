@@ -1,8 +1,10 @@
 // The library's face: what a caller in Rattle uses. Both ends in place over words that the caller lends, and the host
-// by value; the plain host; in the module cards, a table of cards at one host; a frame's layout; a refusal's class; the
-// count by which a window moves; the replay from fragments. Assumes nothing: any words are a state, and any bytes get an
-// answer. It promises what specs/Face.antt says, which is what the theorems of the crates delivery and delivery_restarts
-// are about; what it passes on promises by the definitions of its own crate.
+// by value; the plain host; in the module cards, a table of cards at one host; in the module billing, the subscriber
+// ledger; a frame's layout; a refusal's class; the count by which a window moves; the replay from fragments. Assumes
+// nothing: any words are a state, and any bytes get an answer. It promises what specs/Face.antt says, which is what the
+// theorems of the crates delivery and delivery_restarts are about; what it passes on promises by the definitions of its
+// own crate.
+pub mod billing;
 pub mod cards;
 
 pub use bitmap::word64::trailing_ones;

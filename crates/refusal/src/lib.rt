@@ -71,11 +71,19 @@ pub const SOURCE_REGISTERED: u8 = 30;
 
 pub const REGION_OUTSIDE_MEMORY: u8 = 31;
 
+// ---- of a subscriber ledger, without a class
+
+pub const NOT_WHOLE_READINGS: u8 = 40;
+
+pub const UNKNOWN_SUBSCRIBER: u8 = 41;
+
+pub const PAST_64_BITS: u8 = 42;
+
 // ---- of no class: a replay from fragments
 
 pub const REPLAY_CLOSED: u8 = 17;
 
-// Other is the class of all other numbers: 15, 17, 19 and 28 to 31 among them.
+// Other is the class of all other numbers: 15, 17, 19, 28 to 31 and 40 to 42 among them.
 pub enum Class {
     Wire,
     Message,

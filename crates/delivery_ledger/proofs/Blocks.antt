@@ -1,0 +1,4 @@
+pub mod Bytes
+pub mod InBook
+pub mod Parts
+pub mod Taking

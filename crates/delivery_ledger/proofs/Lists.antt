@@ -1,0 +1,10 @@
+pub mod Check
+pub mod Worked
+pub mod Wrong
+pub mod RestartCheck
+pub mod CrashCheck
+pub mod Restarted
+pub mod Crashed
+pub mod Around
+pub mod WrongRestarts
+pub mod WrongCrashes

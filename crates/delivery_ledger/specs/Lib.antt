@@ -1,0 +1,4 @@
+pub mod Blocks
+pub mod Charged
+pub mod OverRestarts
+pub mod OverCrashes

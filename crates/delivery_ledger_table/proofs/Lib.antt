@@ -1,0 +1,4 @@
+pub mod PerCard
+pub mod Together
+pub mod OneCardEach
+pub mod Lists

@@ -1,0 +1,5 @@
+pub mod Check
+pub mod Watched
+pub mod TwoCards
+pub mod Homes
+pub mod Wrong

@@ -1,0 +1,3 @@
+pub mod PerCard
+pub mod Together
+pub mod OneCardEach

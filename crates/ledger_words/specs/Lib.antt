@@ -1,0 +1,3 @@
+pub mod LedgerWords
+pub mod Room
+pub mod LedgerCalls
