@@ -1,6 +1,6 @@
 /*
- * Drives a card, a host and a table by lines from standard input, one call each, and
- * writes every answer: for trying a sequence by hand, and for comparing the library with
+ * Drives a card, a host, a table and a ledger by lines from standard input, one call
+ * each, and writes every answer: for trying a sequence by hand, and for comparing the library with
  * an independent program. It is built over the installed header, so that what is
  * compared goes the way that users go.
  *
@@ -38,6 +38,7 @@ struct program {
     lw_host host;
     lw_table table;
     struct buffer memory; /* of host and table */
+    lw_ledger ledger;
     struct buffer text; /* the latest buffer to store in */
     uint8_t bytes[LONGEST_LINE / 2]; /* those of the line's last word */
     char line[LONGEST_LINE];
@@ -499,6 +500,36 @@ static bool call_tablestate(struct program *program, const struct word *words)
     return true;
 }
 
+static bool call_ledger(struct program *program, const struct word *words)
+{
+    (void)words;
+    lw_ledger_open(&program->ledger);
+    puts("ok");
+    return true;
+}
+
+static bool call_block(struct program *program, const struct word *words)
+{
+    size_t length;
+
+    if (!read_bytes(words[0], program->bytes, &length))
+        return false;
+    put_done(lw_ledger_take(&program->ledger, program->bytes, length));
+    return true;
+}
+
+static bool call_total(struct program *program, const struct word *words)
+{
+    uint32_t subscriber;
+    uint64_t total;
+
+    if (!read_number(words[0], LW_SUBSCRIBERS - 1, &subscriber))
+        return false;
+    lw_ledger_total(&program->ledger, subscriber, &total);
+    printf("%" PRIu64 " %" PRIu64 "\n", total, lw_ledger_sum(&program->ledger));
+    return true;
+}
+
 static bool call_layout(struct program *program, const struct word *words)
 {
     static uint32_t (*const fields[])(const uint8_t *, size_t) = {
@@ -590,6 +621,7 @@ static const struct command {
     {"store", 1, call_store},   {"restore", 1, call_restore}, {"table", 2, call_table},
     {"register", 4, call_register}, {"remove", 1, call_remove}, {"deliver", 2, call_deliver},
     {"take", 1, call_take},     {"adopt", 3, call_adopt},     {"tablestate", 0, call_tablestate},
+    {"ledger", 0, call_ledger}, {"block", 1, call_block},     {"total", 1, call_total},
 };
 
 /* Does what the line says and writes the answer; false if it is of no form. */
@@ -628,10 +660,12 @@ int main(void)
 {
     static struct program program;
 
-    /* Both ends and the table as a refused opening leaves them, with buffers of no bytes. */
+    /* Both ends and the table as a refused opening leaves them, with buffers of no bytes, and
+     * an empty ledger. */
     lw_card_open(&program.card, 0, 0, 0, NULL, 0);
     lw_host_open(&program.host, 0, 0);
     lw_table_open(&program.table, 0);
+    lw_ledger_open(&program.ledger);
 
     while (read_line(&program)) {
         if (!answer_line(&program))

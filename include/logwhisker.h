@@ -5,7 +5,7 @@
  *
  * Ownership. The caller owns every object and every buffer; the library allocates
  * nothing, keeps no pointer from one call to the next and has no state of its own.
- * An lw_host, lw_table or lw_card is a plain value without pointers: it needs no closing,
+ * An lw_host, lw_table, lw_card or lw_ledger is a plain value without pointers: it needs no closing,
  * and a copy of it is a snapshot. A card that goes back to one gives frame numbers
  * a second time, and loses data. Its words are the library's business.
  *
@@ -86,12 +86,17 @@ enum lw_refusal {
     LW_REFUSED_TABLE_FULL = 28,            /* 16 cards are registered */
     LW_REFUSED_REGION_OVERLAPS = 29,       /* the region has a byte of another card's */
     LW_REFUSED_SOURCE_REGISTERED = 30,     /* a card with this ID is registered */
-    LW_REFUSED_REGION_OUTSIDE_MEMORY = 31  /* the region is empty, or ends past the memory */
+    LW_REFUSED_REGION_OUTSIDE_MEMORY = 31, /* the region is empty, or ends past the memory */
+
+    /* A subscriber ledger. */
+    LW_REFUSED_NOT_WHOLE_READINGS = 40, /* the block's size is no multiple of 8 */
+    LW_REFUSED_UNKNOWN_SUBSCRIBER = 41, /* a reading's subscriber is not below 1,024 */
+    LW_REFUSED_PAST_64_BITS = 42        /* a total, or the sum of all, would pass 64 bits */
 };
 
 /* What a refusal is about. */
 enum lw_class {
-    LW_CLASS_NONE = 0,    /* no refusal, or 15, 17, 19 or 28 to 31, which have no class */
+    LW_CLASS_NONE = 0,    /* no refusal, or 15, 17, 19, 28 to 31 or 40 to 42: no class */
     LW_CLASS_WIRE = 1,    /* the frame as a whole: 1 to 6 */
     LW_CLASS_MESSAGE = 2, /* one message: 7 to 12 */
     LW_CLASS_CALLER = 3,  /* what the caller asked for: 13 and 14 */
@@ -99,7 +104,8 @@ enum lw_class {
 };
 
 /* The class of a refusal number, as one of enum lw_class. Any number may be asked
- * for; 15, 17, 19, 28 to 31 and those that are no refusal above are LW_CLASS_NONE. */
+ * for; 15, 17, 19, 28 to 31, 40 to 42 and those that are no refusal above are
+ * LW_CLASS_NONE. */
 uint32_t lw_refusal_class(uint32_t number);
 
 /* A few words for a refusal number, as a static string: its constant's name in
@@ -137,6 +143,9 @@ static inline const char *lw_refusal_name(uint32_t number)
     case LW_REFUSED_REGION_OVERLAPS: return "region overlaps";
     case LW_REFUSED_SOURCE_REGISTERED: return "source registered";
     case LW_REFUSED_REGION_OUTSIDE_MEMORY: return "region outside memory";
+    case LW_REFUSED_NOT_WHOLE_READINGS: return "not whole readings";
+    case LW_REFUSED_UNKNOWN_SUBSCRIBER: return "unknown subscriber";
+    case LW_REFUSED_PAST_64_BITS: return "past 64 bits";
     default: return "unknown";
     }
 }
@@ -157,6 +166,8 @@ uint32_t lw_trailing_ones(uint64_t marks);
 #define LW_TRANSACTION_WINDOW 32
 #define LW_LONGEST_TEXT 1103  /* bytes of a host's stored text at most; at least 47 */
 #define LW_TABLE_CARDS 16     /* cards at a table at most */
+#define LW_SUBSCRIBERS 1024   /* subscribers of a ledger */
+#define LW_READING 8          /* bytes of a reading */
 
 /* Bytes of the slot buffer of a card whose frame limit this is. */
 #define LW_SLOTS_SIZE(limit) ((size_t)LW_FRAME_WINDOW * (limit))
@@ -166,6 +177,7 @@ uint32_t lw_trailing_ones(uint64_t marks);
 #define LW_PLAIN_WORDS 228
 #define LW_TABLE_WORDS 1121
 #define LW_TABLE_DESCRIPTION_WORDS 49
+#define LW_LEDGER_WORDS 2049
 #define LW_ANSWER_WORDS 8
 #define LW_REPLAY_WORDS 9     /* of a replay's place */
 #define LW_REPLAY_MEMORY 4096 /* bytes of a replay's memory */
@@ -197,6 +209,12 @@ typedef struct lw_plain {
 typedef struct lw_table {
     uint64_t words[LW_TABLE_WORDS];
 } lw_table;
+
+/* What subscribers are charged. Open it before anything else. Its words may be kept over a
+ * restart as they are, for the same version of the library. */
+typedef struct lw_ledger {
+    uint64_t words[LW_LEDGER_WORDS];
+} lw_ledger;
 
 /* What a received frame is answered. */
 enum lw_kind {
@@ -304,6 +322,10 @@ uint32_t lw_raw_table_take(const lw_table *table, uint16_t source, lw_host *host
 uint32_t lw_raw_table_adopt(lw_table *table, const lw_host *host, size_t first, size_t size,
                             size_t memory);
 void lw_raw_table_describe(const lw_table *table, lw_table_description *description);
+void lw_raw_ledger_open(lw_ledger *ledger);
+uint32_t lw_raw_ledger_take(lw_ledger *ledger, const uint8_t *block, size_t length);
+uint32_t lw_raw_ledger_total(const lw_ledger *ledger, uint32_t subscriber, uint64_t *total);
+uint64_t lw_raw_ledger_sum(const lw_ledger *ledger);
 uint32_t lw_raw_plain_open(lw_plain *host, uint16_t own, uint16_t peer);
 uint32_t lw_raw_plain_receive(lw_plain *host, const uint8_t *frame, size_t length, uint8_t *memory,
                               size_t size, lw_answer *answer);
@@ -354,6 +376,7 @@ LW_SAME_SIZE(lw_card, LW_CARD_WORDS);
 LW_SAME_SIZE(lw_plain, LW_PLAIN_WORDS);
 LW_SAME_SIZE(lw_table, LW_TABLE_WORDS);
 LW_SAME_SIZE(lw_table_description, LW_TABLE_DESCRIPTION_WORDS);
+LW_SAME_SIZE(lw_ledger, LW_LEDGER_WORDS);
 LW_SAME_SIZE(lw_answer, LW_ANSWER_WORDS);
 LW_SAME_SIZE(lw_totals, 3);
 LW_SAME_SIZE(lw_description, LW_DESCRIPTION_WORDS);
@@ -507,6 +530,41 @@ static inline uint32_t lw_table_adopt(lw_table *table, const lw_host *host, size
 static inline void lw_table_describe(const lw_table *table, lw_table_description *description)
 {
     lw_raw_table_describe(table, description);
+}
+
+/* ---- The subscriber ledger --------------------------------------------- */
+
+/* Opens a ledger, whatever *ledger held before: no subscriber was read, and nothing is
+ * charged. */
+static inline void lw_ledger_open(lw_ledger *ledger)
+{
+    lw_raw_ledger_open(ledger);
+}
+
+/* Takes a block of readings, LW_READING bytes each: a subscriber, 0 to 1,023, and the
+ * lower 32 bits of its byte counter, 4 bytes each, little endian. A subscriber's first
+ * reading charges nothing, each later one the bytes since the one before it, modulo 2^32.
+ * Returns 0, or LW_REFUSED_NOT_WHOLE_READINGS; or of the first reading that has a fault
+ * LW_REFUSED_UNKNOWN_SUBSCRIBER or LW_REFUSED_PAST_64_BITS; then the ledger is as it was. A
+ * block of no bytes is taken. */
+static inline uint32_t lw_ledger_take(lw_ledger *ledger, const uint8_t *block, size_t length)
+{
+    const uint8_t none = 0;
+    return lw_raw_ledger_take(ledger, length != 0 ? block : &none, length);
+}
+
+/* Writes the bytes that are charged to a subscriber to *total, and returns 1 if the
+ * subscriber was ever read; else 0, and then *total is 0. Any number may be asked for. */
+static inline uint32_t lw_ledger_total(const lw_ledger *ledger, uint32_t subscriber,
+                                       uint64_t *total)
+{
+    return lw_raw_ledger_total(ledger, subscriber, total);
+}
+
+/* The bytes that are charged to all subscribers together. */
+static inline uint64_t lw_ledger_sum(const lw_ledger *ledger)
+{
+    return lw_raw_ledger_sum(ledger);
 }
 
 /* ---- The plain host ---------------------------------------------------- */

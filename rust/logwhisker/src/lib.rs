@@ -1,7 +1,7 @@
 //! Both ends of a DG/RDMA pair over the proved static library: a charging [`Host`], a
 //! [`PlainHost`] that answers as it does, a [`Table`] of cards at one host, a [`Card`], a
-//! [`Replay`] from fragments, the layout of a frame, the refusals, and the count of marks
-//! by which a window moves.
+//! subscriber [`Ledger`], a [`Replay`] from fragments, the layout of a frame, the refusals,
+//! and the count of marks by which a window moves.
 //! Nothing is allocated and nothing is kept between calls but what each of these owns;
 //! what else a call reads or writes is lent to it.
 //!
@@ -30,6 +30,7 @@
 mod card;
 mod host;
 mod layout;
+mod ledger;
 mod plain;
 pub mod raw;
 mod refusal;
@@ -42,6 +43,7 @@ pub use layout::{
     Layout, ack_count, ack_start, data_bytes, destination, flags, frame_number, layout_refusal,
     message_count, source,
 };
+pub use ledger::Ledger;
 pub use plain::PlainHost;
 pub use raw::trailing_ones;
 pub use refusal::{Class, Refusal, refusal_class};
@@ -56,5 +58,9 @@ pub const LONGEST_FRAME: usize = 9_000;
 pub const LONGEST_TEXT: usize = 1_103;
 /// Cards of a table at most.
 pub const TABLE_CARDS: usize = 16;
+/// Subscribers of a ledger.
+pub const SUBSCRIBERS: u32 = 1_024;
+/// Bytes of a reading: subscriber and counter.
+pub const READING: usize = 8;
 /// Slots of a card's buffer; it has this many times the frame limit in bytes.
 pub const SLOTS: usize = 64;

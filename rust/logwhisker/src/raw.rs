@@ -14,6 +14,8 @@ pub const PLAIN_WORDS: usize = 228;
 pub const TABLE_WORDS: usize = 1_121;
 /// Words of a table's description: own, and source, first byte and length of each place.
 pub const TABLE_DESCRIPTION_WORDS: usize = 49;
+/// Words of a ledger's state.
+pub const LEDGER_WORDS: usize = 2_049;
 /// Words of a card's state.
 pub const CARD_WORDS: usize = 85;
 /// Words of an answer: kind, number, messages, bytes, completed, refusal, place, run.
@@ -129,6 +131,10 @@ mod exported {
             memory: usize,
         ) -> u32;
         pub fn lw_raw_table_describe(words: *const u64, description: *mut u64);
+        pub fn lw_raw_ledger_open(words: *mut u64);
+        pub fn lw_raw_ledger_take(words: *mut u64, block: *const u8, length: usize) -> u32;
+        pub fn lw_raw_ledger_total(words: *const u64, subscriber: u32, total: *mut u64) -> u32;
+        pub fn lw_raw_ledger_sum(words: *const u64) -> u64;
         pub fn lw_raw_replay_open(place: *mut u64, words: *mut u64, memory: *mut u8);
         pub fn lw_raw_replay_feed(
             place: *mut u64,
@@ -456,6 +462,30 @@ pub fn table_describe(
     description: &mut [u64; TABLE_DESCRIPTION_WORDS],
 ) {
     unsafe { exported::lw_raw_table_describe(words.as_ptr(), description.as_mut_ptr()) }
+}
+
+/// Opens a ledger.
+#[inline]
+pub fn ledger_open(words: &mut [u64; LEDGER_WORDS]) {
+    unsafe { exported::lw_raw_ledger_open(words.as_mut_ptr()) }
+}
+
+/// Takes a block: 0 or the refusal.
+#[inline]
+pub fn ledger_take(words: &mut [u64; LEDGER_WORDS], block: &[u8]) -> u32 {
+    unsafe { exported::lw_raw_ledger_take(words.as_mut_ptr(), block.as_ptr(), block.len()) }
+}
+
+/// Writes a subscriber's total: 1 if it was ever read, else 0.
+#[inline]
+pub fn ledger_total(words: &[u64; LEDGER_WORDS], subscriber: u32, total: &mut u64) -> u32 {
+    unsafe { exported::lw_raw_ledger_total(words.as_ptr(), subscriber, total) }
+}
+
+/// The sum of all totals.
+#[inline]
+pub fn ledger_sum(words: &[u64; LEDGER_WORDS]) -> u64 {
+    unsafe { exported::lw_raw_ledger_sum(words.as_ptr()) }
 }
 
 /// Opens a replay.

@@ -86,6 +86,12 @@ refusals! {
     SOURCE_REGISTERED = 30,
     /// The region is empty, or ends past the memory.
     REGION_OUTSIDE_MEMORY = 31,
+    /// The block's size is no multiple of 8.
+    NOT_WHOLE_READINGS = 40,
+    /// A reading's subscriber is not below 1,024.
+    UNKNOWN_SUBSCRIBER = 41,
+    /// A total, or the sum of all, would pass 64 bits.
+    PAST_64_BITS = 42,
 }
 
 impl Refusal {
@@ -128,7 +134,7 @@ impl Error for Refusal {}
 #[derive(Clone, Copy, Debug, PartialEq, Eq, Hash)]
 #[repr(u32)]
 pub enum Class {
-    /// No refusal, or 15, 17, 19 or 28 to 31, which have no class.
+    /// No refusal, or 15, 17, 19, 28 to 31 or 40 to 42, which have no class.
     None = 0,
     /// The frame as a whole: 1 to 6.
     Wire = 1,
