@@ -75,7 +75,7 @@ soak:
 	$(MAKE) library calls
 	cd rust && cargo test --offline --locked --release -p logwhisker --test streams -- --include-ignored --nocapture
 	cd rust && LW_SEED=$(SEED) LW_INPUTS=12000000 LW_FRAMES=4000000 LW_LINES=20000000 LW_SCRIPTS=240 \
-		LW_LISTS=4000 LW_LONG_LISTS=10 LW_CALLS_OF_CARD=6000000 LW_TEXTS=600000 LW_TABLES=4000 \
+		LW_LISTS=4000 LW_LONG_LISTS=10 LW_CALLS_OF_CARD=6000000 LW_TEXTS=600000 LW_TABLES=4000 LW_BLOCKS=400000 \
 		cargo test --offline --locked --release -p logwhisker -p reference --tests
 	@echo 'soak: all the same from seed $(SEED) on'
 

@@ -1259,12 +1259,15 @@ static void check_names(void)
     CHECK_NAME(29, REGION_OVERLAPS, NONE);
     CHECK_NAME(30, SOURCE_REGISTERED, NONE);
     CHECK_NAME(31, REGION_OUTSIDE_MEMORY, NONE);
+    CHECK_NAME(40, NOT_WHOLE_READINGS, NONE);
+    CHECK_NAME(41, UNKNOWN_SUBSCRIBER, NONE);
+    CHECK_NAME(42, PAST_64_BITS, NONE);
     check("none", 0, strcmp(lw_refusal_name(0), "none") == 0, 1);
     for (uint32_t number = 1; number < 300; number++)
         check("unknown exactly without a class, and none of those above", number,
               strcmp(lw_refusal_name(number), "unknown") == 0,
               number != 15 && number != 17 && number != 19 && (number < 28 || number > 31) &&
-                  lw_refusal_class(number) == LW_CLASS_NONE);
+                  (number < 40 || number > 42) && lw_refusal_class(number) == LW_CLASS_NONE);
     check("unknown", 0, strcmp(lw_refusal_name(UINT32_MAX), "unknown") == 0, 1);
     end_group("names of refusals");
 }

@@ -1,6 +1,6 @@
-//! What the benchmarks are made of: both ends, the table and the replay in plain Rust written
-//! for speed, the frames that hosts are timed on, the steps that cards are timed on, the runs
-//! of tables, and both kinds of ends behind the same boundary.
+//! What the benchmarks are made of: both ends, the table, the ledger and the replay in plain
+//! Rust written for speed, the frames that hosts are timed on, the steps that cards are timed
+//! on, the runs of tables, and both kinds of ends behind the same boundary.
 
 #![forbid(unsafe_code)]
 

@@ -1,17 +1,19 @@
 //! Runs the C program `calls`, which is built over the installed header, on scripts and
-//! compares every answer with the independent one: both ends' answers, a table's, the frames
-//! handed out with their place in the slots, and digests of slots and memory. `LW_SEED` and
-//! `LW_SCRIPTS` choose the first seed and the number of scripts of each kind, `LW_CALLS`
-//! another program.
+//! compares every answer with the independent one: both ends' answers, a table's, a ledger's,
+//! the frames handed out with their place in the slots, and digests of slots and memory.
+//! `LW_SEED` and `LW_SCRIPTS` choose the first seed and the number of scripts of each kind,
+//! `LW_CALLS` another program.
 
 mod programs;
 
 use reference::calls;
 use reference::demand::Care;
 use reference::ends::{Sound, Start};
-use reference::faults::{Fault, Faulty, FaultyTables, FoundBy, TableFault};
+use reference::faults::{
+    Fault, Faulty, FaultyLedgers, FaultyTables, FoundBy, LedgerFault, TableFault,
+};
 use reference::rng::Rng;
-use reference::script::{Tables, Wild, of_list};
+use reference::script::{Ledgers, Tables, Wild, of_list};
 use reference::settings::{count_from_env, number_from_env};
 use reference::simulator::{Profile, come_round, simulate};
 use std::collections::BTreeSet;
@@ -23,6 +25,7 @@ const STDOUT: &str = include_str!("../../../c/calls.stdout");
 const WILD_LINES: usize = 8_000;
 const LIST_CALLS: usize = 600;
 const TABLE_LINES: usize = 6_000;
+const LEDGER_LINES: usize = 4_000;
 const LONG_CALLS: usize = 400_000;
 /// The longest line that is read.
 const LONGEST: usize = 200_000;
@@ -76,6 +79,10 @@ fn wild(seed: u64) -> Vec<u8> {
 
 fn tables(seed: u64) -> Vec<u8> {
     Tables::new(seed).text(TABLE_LINES)
+}
+
+fn ledgers(seed: u64) -> Vec<u8> {
+    Ledgers::new(seed).text(LEDGER_LINES)
 }
 
 /// A list of demand 3 from fresh ends, with digests of slots and memory in between.
@@ -169,6 +176,33 @@ fn lines_about_tables() {
     let missed: Vec<String> = wanted.filter(|wanted| !met.contains(wanted)).collect();
     assert!(missed.is_empty(), "not met: {missed:?}");
     assert_eq!(fullest, 16, "a table that is full is told of");
+}
+
+#[test]
+fn lines_about_ledgers() {
+    let mut met = BTreeSet::new();
+    let mut largest = 0;
+    for seed in seeds() {
+        let script = ledgers(seed);
+        let answers = assert_same(&script);
+        for (line, answer) in answered(&script, &answers) {
+            match line.split_once(' ') {
+                Some(("total", _)) if answer != "?" => {
+                    let (_, sum) = answer.split_once(' ').expect("a total and the sum");
+                    largest = largest.max(sum.parse().expect("a sum of 64 bits"));
+                }
+                form => {
+                    let form = form.map_or(line, |(form, _)| form);
+                    met.insert(format!("{form}: {}", beginning_of(answer)));
+                }
+            }
+        }
+    }
+    // 42 takes more bytes than lines can charge to an empty ledger.
+    for wanted in ["ledger: ok", "block: ok", "block: R 40", "block: R 41"] {
+        assert!(met.contains(wanted), "not met: {wanted}");
+    }
+    assert!(largest >= 1u64 << 32, "the largest sum is {largest}");
 }
 
 #[test]
@@ -269,4 +303,30 @@ fn faults_of_tables_show_in_the_answers() {
     for fault in TableFault::ALL {
         assert!(shows(Some(*fault)), "{fault:?}");
     }
+}
+
+/// What a ledger may get wrong is told apart by the answers, but for what shows only in a
+/// ledger that is nearly full.
+#[test]
+fn faults_of_ledgers_show_in_the_answers() {
+    let scripts: Vec<Vec<u8>> = (0..8).map(ledgers).collect();
+    let answers: Vec<String> = scripts.iter().map(|script| output_of(script)).collect();
+    let shows = |fault: Option<LedgerFault>| {
+        let mut pairs = scripts.iter().zip(&answers);
+        pairs.any(|(script, answer)| calls::output(FaultyLedgers(fault), script) != *answer)
+    };
+    assert!(!shows(None), "without a fault the answers are the same");
+    let hidden = LedgerFault::ALL
+        .iter()
+        .filter(|fault| !shows(Some(**fault)));
+    let hidden: Vec<LedgerFault> = hidden.copied().collect();
+    let nearly_full = [
+        LedgerFault::SumWraps,
+        LedgerFault::TotalWraps,
+        LedgerFault::OverflowBeforeUnknown,
+        LedgerFault::UnknownOfAllFirst,
+        LedgerFault::TellsLastFault,
+        LedgerFault::FullOneEarly,
+    ];
+    assert_eq!(hidden, nearly_full);
 }

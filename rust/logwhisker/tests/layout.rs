@@ -287,7 +287,7 @@ fn class_agrees_with_the_reference() {
 #[test]
 fn refusals_by_name() {
     // These have no class.
-    let without = [15, 17, 19, 28, 29, 30, 31];
+    let without = [15, 17, 19, 28, 29, 30, 31, 40, 41, 42];
     let due = (0..1_000)
         .filter(|number| without.contains(number) || refusal::class(*number) != Class::None);
     let named = Refusal::ALL.iter().map(|refusal| refusal.number());

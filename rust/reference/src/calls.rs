@@ -1,10 +1,11 @@
-//! The program that drives a card, a host and a table by lines, one call each, and writes
-//! every answer, for comparison with the proved one. It works on any ends and any stream, so
-//! that tests and the program beside it run the same code.
+//! The program that drives a card, a host, a table and a ledger by lines, one call each, and
+//! writes every answer, for comparison with the proved one. It works on any ends and any
+//! stream, so that tests and the program beside it run the same code.
 
 use crate::demand::UNWRITTEN;
-use crate::ends::{CardEnd, Ends, HostEnd, Start, TableEnd};
+use crate::ends::{CardEnd, Ends, HostEnd, LedgerEnd, Start, TableEnd};
 use crate::host::{Answer, Host};
+use crate::ledger::Ledger;
 use crate::marks;
 use crate::refusal::{self, Class};
 use crate::table::{Region, Registered, source_of};
@@ -30,12 +31,18 @@ pub struct Program<E: Ends> {
     table: E::Table,
     /// The host's and the table's.
     memory: Vec<u8>,
+    ledger: E::Ledger,
 }
 
 impl<E: Ends> Program<E> {
     /// Before the first line: both ends and the table as a refused opening leaves them,
-    /// with buffers of no bytes.
+    /// with buffers of no bytes, and the ledger empty.
     pub fn new(ends: E) -> Program<E> {
+        Program::starting_with(ends, &Ledger::open())
+    }
+
+    /// The same with another ledger, since no line can say that it is to start so.
+    pub fn starting_with(ends: E, ledger: &Ledger) -> Program<E> {
         let start = Start::default();
         Program {
             card: ends.open_card(0, 0, 0, &[], start).0,
@@ -43,6 +50,7 @@ impl<E: Ends> Program<E> {
             host: ends.open_host(0, 0, start).0,
             table: ends.open_table(0).0,
             memory: Vec::new(),
+            ledger: ends.open_ledger(ledger),
             ends,
         }
     }
@@ -138,6 +146,15 @@ impl<E: Ends> Program<E> {
                 done(self.table.adopt(self.host.host(), region, memory))
             }
             Line::TableState => table_state(&self.table),
+            Line::Ledger => {
+                self.ledger = self.ends.open_ledger(&Ledger::open());
+                done(Ok(()))
+            }
+            Line::Block(block) => done(self.ledger.take(&block)),
+            Line::Total(subscriber) => {
+                let total = self.ledger.total(subscriber).unwrap_or(0);
+                format!("{total} {}", self.ledger.sum())
+            }
         }
     }
 
@@ -181,6 +198,11 @@ impl<E: Ends> Program<E> {
     /// The table.
     pub fn table(&self) -> &E::Table {
         &self.table
+    }
+
+    /// The ledger.
+    pub fn ledger(&self) -> &E::Ledger {
+        &self.ledger
     }
 
     /// The memory of both.

@@ -1,8 +1,9 @@
-//! What a card, a host and a table are to those who drive them, so that lists and scripts
-//! can be run on the reference and on ends with a fault alike.
+//! What a card, a host, a table and a ledger are to those who drive them, so that lists and
+//! scripts can be run on the reference and on ends with a fault alike.
 
 use crate::card::Card;
 use crate::host::{Answer, Host};
+use crate::ledger::Ledger;
 use crate::table::{Region, Registered, Table};
 use crate::wire::FRAME_HEADER;
 
@@ -63,6 +64,16 @@ pub trait TableEnd {
     fn cards(&self) -> Vec<Registered>;
 }
 
+/// The calls on a ledger.
+pub trait LedgerEnd {
+    /// See [`Ledger::take`].
+    fn take(&mut self, block: &[u8]) -> Result<(), u8>;
+    /// See [`Ledger::total`].
+    fn total(&self, subscriber: u32) -> Option<u64>;
+    /// See [`Ledger::sum`].
+    fn sum(&self) -> u64;
+}
+
 /// Where the numbers of both ends start: 0 and 0 unless a test wants to be near the
 /// end of a number space.
 #[derive(Clone, Copy, Debug, Default, PartialEq, Eq)]
@@ -81,6 +92,8 @@ pub trait Ends {
     type Host: HostEnd;
     /// Its table.
     type Table: TableEnd;
+    /// Its ledger.
+    type Ledger: LedgerEnd;
 
     /// As [`Card::open`]; an end that is not refused starts as told.
     fn open_card(
@@ -97,6 +110,10 @@ pub trait Ends {
 
     /// As [`Table::open`].
     fn open_table(&self, own: u16) -> (Self::Table, Option<u8>);
+
+    /// A ledger that starts as told: an empty one unless a test wants to be near the end of
+    /// its sums.
+    fn open_ledger(&self, start: &Ledger) -> Self::Ledger;
 }
 
 /// The reference's own ends.
@@ -107,6 +124,7 @@ impl Ends for Sound {
     type Card = Card;
     type Host = Host;
     type Table = Table;
+    type Ledger = Ledger;
 
     fn open_card(
         &self,
@@ -137,6 +155,10 @@ impl Ends for Sound {
 
     fn open_table(&self, own: u16) -> (Table, Option<u8>) {
         Table::open(own)
+    }
+
+    fn open_ledger(&self, start: &Ledger) -> Ledger {
+        start.clone()
     }
 }
 
@@ -222,5 +244,19 @@ impl TableEnd for Table {
 
     fn cards(&self) -> Vec<Registered> {
         Table::cards(self)
+    }
+}
+
+impl LedgerEnd for Ledger {
+    fn take(&mut self, block: &[u8]) -> Result<(), u8> {
+        Ledger::take(self, block)
+    }
+
+    fn total(&self, subscriber: u32) -> Option<u64> {
+        Ledger::total(self, subscriber)
+    }
+
+    fn sum(&self) -> u64 {
+        Ledger::sum(self)
     }
 }

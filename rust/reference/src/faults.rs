@@ -3,15 +3,18 @@
 //! changes one thing, so that all else stays as it is there.
 
 use crate::ends::{Ends, Sound, Start};
+use crate::ledger::Ledger;
 use crate::table::Table;
 use crate::windows::Windows;
 
 mod card;
 mod host;
+mod ledger;
 mod table;
 
 pub use card::FaultyCard;
 pub use host::FaultyHost;
+pub use ledger::{FaultyLedger, FaultyLedgers, LedgerFault, LedgerFoundBy};
 pub use table::{FaultyTable, FaultyTables, TableFault, TableFoundBy};
 
 /// Who finds a fault.
@@ -194,6 +197,7 @@ impl Ends for Faulty {
     type Card = FaultyCard;
     type Host = FaultyHost;
     type Table = Table;
+    type Ledger = Ledger;
 
     fn open_card(
         &self,
@@ -216,5 +220,9 @@ impl Ends for Faulty {
 
     fn open_table(&self, own: u16) -> (Table, Option<u8>) {
         Sound.open_table(own)
+    }
+
+    fn open_ledger(&self, start: &Ledger) -> Ledger {
+        Sound.open_ledger(start)
     }
 }

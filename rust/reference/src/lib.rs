@@ -19,6 +19,8 @@ pub mod demand;
 pub mod ends;
 pub mod faults;
 pub mod host;
+pub mod ledger;
+pub mod ledger_lists;
 pub mod list;
 pub mod marks;
 pub mod premises;

@@ -68,6 +68,13 @@ pub const REGISTERED: u8 = 30;
 /// ends before its source's region does.
 pub const REGION_OUTSIDE: u8 = 31;
 
+/// The block's size is no multiple of a reading's.
+pub const BLOCK_SIZE: u8 = 40;
+/// No subscriber has the number.
+pub const SUBSCRIBER_UNKNOWN: u8 = 41;
+/// A total, or the sum of all totals, would take more than 64 bits.
+pub const TOTAL_OVERFLOW: u8 = 42;
+
 /// What a refusal is about. The discriminants are the numbers that C sees.
 #[derive(Clone, Copy, Debug, PartialEq, Eq, Hash)]
 #[repr(u32)]
@@ -172,6 +179,9 @@ mod tests {
             (27, Class::Card),
             (28, Class::None),
             (31, Class::None),
+            (BLOCK_SIZE.into(), Class::None),
+            (SUBSCRIBER_UNKNOWN.into(), Class::None),
+            (TOTAL_OVERFLOW.into(), Class::None),
             (255, Class::None),
             // Numbers whose low byte or low half is that of a refusal.
             (256 + 1, Class::None),

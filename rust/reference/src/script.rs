@@ -1,5 +1,6 @@
 //! Scripts for the program `calls`: the lists of demand 3 spelled as its lines, lines of
-//! any kind, also such as no list of that demand has, and lines about a table.
+//! any kind, also such as no list of that demand has, lines about a table and lines about a
+//! ledger.
 
 use crate::calls::hex;
 use crate::card::SLOTS;
@@ -7,9 +8,11 @@ use crate::demand::{Care, Setting, System};
 use crate::ends::{Sound, Start};
 use crate::list::Call;
 
+mod ledgers;
 mod tables;
 mod wild;
 
+pub use ledgers::Ledgers;
 pub use tables::Tables;
 pub use wild::Wild;
 

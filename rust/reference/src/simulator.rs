@@ -9,6 +9,7 @@ use crate::rng::Rng;
 use crate::wire::{FRAME_HEADER, MESSAGE_HEADER};
 use plans::Plans;
 use std::collections::VecDeque;
+use std::ops::Range;
 
 mod come_round;
 mod plans;
@@ -83,6 +84,11 @@ impl Simulator {
     /// What the list has met so far.
     pub fn tally(&self) -> &Tally {
         &self.tally
+    }
+
+    /// Where the block of a transaction is that carries one and is not finished.
+    pub fn block_of(&self, transaction: usize) -> Option<Range<usize>> {
+        self.plans.block_of(transaction)
     }
 
     /// The next call of the list, given the book of those so far.

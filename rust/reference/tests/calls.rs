@@ -1,9 +1,11 @@
 //! The stored script for the program `calls`, which `calls-sample` makes: the independent
 //! program gives the stored answers, and they have every refusal and every kind of answer
 //! among them. Random scripts have them too: `LW_SEED` chooses the first seed of those
-//! about tables and `LW_SCRIPTS` their number.
+//! about tables and ledgers and `LW_SCRIPTS` their number.
 
-use reference::script::{Tables, Wild};
+use reference::calls::Program;
+use reference::ends::Sound;
+use reference::script::{Ledgers, Tables, Wild};
 use reference::settings::{count_from_env, number_from_env};
 use std::collections::BTreeMap;
 use std::io::Write;
@@ -165,6 +167,7 @@ fn kind(line: &[u8], answer: &str) -> (String, String) {
     let first = words.next().unwrap_or("");
     let answer = match (word, first) {
         (b"slots" | b"memory", _) => "digest".to_string(),
+        (b"total", number) if number != "?" => "total".to_string(),
         (_, "R") => format!("R {}", words.next().unwrap_or("")),
         _ => first.to_string(),
     };
@@ -287,4 +290,43 @@ fn lines_about_tables_meet_every_answer() {
         assert!(times.unwrap_or(0) >= 5, "{word} with {answer}: {times:?}");
     }
     assert!(full > 0, "no full table was told");
+}
+
+/// The same of lines about a ledger, from an empty one and from one that is nearly full.
+#[test]
+fn lines_about_ledgers_meet_every_answer() {
+    let first = number_from_env("LW_SEED", 1);
+    let scripts = count_from_env("LW_SCRIPTS", 4);
+    let mut met: BTreeMap<(String, String), u64> = BTreeMap::new();
+    let mut full = 0;
+    for seed in first..first + scripts {
+        let nearly_full = (0..40).map(|part| (Ledgers::nearly_full(40 * seed + part), 300));
+        for (mut ledgers, lines) in nearly_full.chain([(Ledgers::new(seed), 12_000)]) {
+            let mut program = Program::starting_with(Sound, ledgers.start());
+            for _ in 0..lines {
+                let (line, answer) = ledgers.next_line();
+                assert_eq!(program.line(&line), answer, "a script starts as it says");
+                *met.entry(kind(&line, &answer)).or_default() += 1;
+            }
+            full += u64::from(program.ledger().sum() == u64::MAX);
+        }
+    }
+    println!("seed {first}, {scripts} scripts: {met:?}, {full} full ledgers");
+    for pair in [
+        "ledger ok",
+        "block ok",
+        "block R 40",
+        "block R 41",
+        "block R 42",
+        "total total",
+        "class none",
+        "ledger ?",
+        "block ?",
+        "total ?",
+    ] {
+        let (word, answer) = pair.split_once(' ').expect("a word and an answer");
+        let times = met.get(&(word.to_string(), answer.to_string())).copied();
+        assert!(times.unwrap_or(0) >= 5, "{word} with {answer}: {times:?}");
+    }
+    assert!(full > 0, "no ledger was filled to the last byte");
 }

@@ -1,11 +1,12 @@
-//! The proved table as the reference's lists drive one, with the reference's cards and
-//! hosts. On demand the whole table is started anew again and again: each pair is taken
+//! The proved table as the reference's lists drive one, with the reference's cards, hosts
+//! and ledgers. On demand the whole table is started anew again and again: each pair is taken
 //! out and stored as text, a table is opened, and each pair is read and adopted there.
 
 use logwhisker::{Answer as Answered, Host as Pair, LONGEST_TEXT, Refusal, Table};
 use reference::card::Card;
 use reference::ends::{Ends, Sound, Start, TableEnd};
 use reference::host::{Answer, Host};
+use reference::ledger::Ledger;
 use reference::table::{Region, Registered};
 use reference::wire::FRAME_HEADER;
 
@@ -27,6 +28,7 @@ impl Ends for Proved {
     type Card = Card;
     type Host = Host;
     type Table = ProvedTable;
+    type Ledger = Ledger;
 
     fn open_card(
         &self,
@@ -52,6 +54,10 @@ impl Ends for Proved {
             calls: 0,
         };
         (table, refusal)
+    }
+
+    fn open_ledger(&self, start: &Ledger) -> Ledger {
+        Sound.open_ledger(start)
     }
 }
 

@@ -65,6 +65,7 @@ fn main() {
     stored(&mut script);
     table(&mut script);
     full_table(&mut script);
+    ledger(&mut script);
     questions(&mut script);
     no_form(&mut script);
     marks(&mut script);
@@ -554,6 +555,48 @@ fn full_table(script: &mut Script) {
     ]);
 }
 
+/// First readings, differences, a counter that wraps, and blocks that change nothing.
+fn ledger(script: &mut Script) {
+    script.lines(&[
+        // Nothing was charged before.
+        ("total 0", "0 0"),
+        ("total 1023", "0 0"),
+        ("ledger", "ok"),
+        ("block -", "ok"),
+        // Subscriber 7 is read first, at 2^32 - 6.
+        ("block 07000000faffffff", "ok"),
+        ("total 7", "0 0"),
+        // Its counter wraps and stands at 10; subscriber 1,023 is read first, at 256.
+        ("block 070000000a000000ff03000000010000", "ok"),
+        ("total 7", "16 16"),
+        ("total 1023", "0 16"),
+        // 7 goes to 12 and to 12 again, 1,023 to 65,536.
+        (
+            "block 070000000c000000ff03000000000100070000000c000000",
+            "ok",
+        ),
+        ("total 7", "18 65298"),
+        ("total 1023", "65280 65298"),
+        // One count back is all counts but one forward.
+        ("block 070000000b000000", "ok"),
+        ("total 7", "4294967313 4295032593"),
+        // Refused: 7 bytes and 9, subscriber 1,024, and one whose high byte is set.
+        ("block 070000000b0000", "R 40"),
+        ("block 070000000b00000000", "R 40"),
+        ("block 0004000000000000", "R 41"),
+        ("block 070000000c0000000004000000000000", "R 41"),
+        ("block 0700000100000000", "R 41"),
+        // The size is looked at first.
+        ("block 000400000000000000", "R 40"),
+        ("total 7", "4294967313 4295032593"),
+        ("total 1022", "0 4295032593"),
+        ("ledger", "ok"),
+        ("total 7", "0 0"),
+        ("block 0700000005000000", "ok"),
+        ("total 7", "0 0"),
+    ]);
+}
+
 fn questions(script: &mut Script) {
     let whole = hex(&WHOLE_CASE);
     script.lines(&[
@@ -576,6 +619,8 @@ fn questions(script: &mut Script) {
         (20, "card"),
         (27, "card"),
         (28, "none"),
+        (40, "none"),
+        (42, "none"),
         (u32::MAX, "none"),
     ];
     for (number, class) in classes {
@@ -612,6 +657,12 @@ fn no_form(script: &mut Script) {
         "take 65536",
         "adopt 0 1",
         "tablestate 1",
+        "ledger 1",
+        "block",
+        "block 0",
+        "block 0g",
+        "total",
+        "total 1024",
         "class 4294967296",
         "layout",
         "hello",

@@ -2,6 +2,7 @@
 //! decimal, bytes in hexadecimal of either case and `-` for none. A line that is not of
 //! one of the forms, or past a limit, is none.
 
+use crate::ledger::SUBSCRIBERS;
 use crate::replay;
 use crate::table::Region;
 
@@ -69,6 +70,9 @@ pub enum Line {
         memory: u64,
     },
     TableState,
+    Ledger,
+    Block(Vec<u8>),
+    Total(u32),
 }
 
 impl Line {
@@ -141,6 +145,12 @@ impl Line {
                 memory: number(memory)?,
             }),
             (b"tablestate", []) => Some(Line::TableState),
+            (b"ledger", []) => Some(Line::Ledger),
+            (b"block", [data]) => Some(Line::Block(bytes(data)?)),
+            (b"total", [subscriber]) => {
+                let subscriber = number(subscriber).filter(|number| *number < SUBSCRIBERS)?;
+                Some(Line::Total(subscriber))
+            }
             _ => None,
         }
     }

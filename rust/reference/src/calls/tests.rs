@@ -3,6 +3,7 @@
 use super::*;
 use crate::cases::WHOLE_CASE;
 use crate::ends::Sound;
+use crate::ledger::Account;
 
 fn answers(lines: &[&str]) -> Vec<String> {
     let output = output(Sound, lines.join("\n").as_bytes());
@@ -71,7 +72,7 @@ fn lines_of_no_form_change_nothing() {
     program.line(b"card 2 1 34 2176 0");
     program.line(b"host 1 2 100");
     let long = [b"receive ".to_vec(), vec![b'0'; LONGEST_LINE - 7]].concat();
-    let bad: [&[u8]; 43] = [
+    let bad: [&[u8]; 52] = [
         b"",
         b" ",
         b"seal ",
@@ -114,6 +115,15 @@ fn lines_of_no_form_change_nothing() {
         b"deliver 18446744073709551616 -",
         b"adopt 0 1",
         b"tablestate 1",
+        b"ledger 1",
+        b"block",
+        b"block ",
+        b"block 0",
+        b"block - -",
+        b"total",
+        b"total 1024",
+        b"total 4294967296",
+        b"total 1 2",
         &long,
     ];
     for line in bad {
@@ -273,6 +283,62 @@ fn a_full_table() {
         ("adopt 49 1 50", "R 13"),
         ("host 9 3 50", "ok"),
         ("adopt 49 1 50", "R 28"),
+    ] {
+        assert_eq!(program.line(line.as_bytes()), answer, "{line}");
+    }
+}
+
+/// Every line about a ledger.
+#[test]
+fn a_ledger() {
+    let cases = [
+        ("total 0", "0 0"),
+        ("total 1023", "0 0"),
+        ("block -", "ok"),
+        ("block 0000000005000000", "ok"),
+        ("total 0", "0 0"),
+        ("block 00000000040000", "R 40"),
+        ("block 000000000400000000", "R 40"),
+        ("block 0000000004000000FF03000007000000", "ok"),
+        ("total 0", "4294967295 4294967295"),
+        ("total 1023", "0 4294967295"),
+        ("block ff03000009000000", "ok"),
+        ("total 1023", "2 4294967297"),
+        ("total 0", "4294967295 4294967297"),
+        ("total 1", "0 4294967297"),
+        ("block 00000000050000000004000000000000", "R 41"),
+        ("total 0", "4294967295 4294967297"),
+        ("class 40", "none"),
+        ("class 41", "none"),
+        ("class 42", "none"),
+        ("ledger", "ok"),
+        ("total 0", "0 0"),
+        ("block 0000000007000000", "ok"),
+        ("total 0", "0 0"),
+    ];
+    let (lines, expected): (Vec<&str>, Vec<&str>) = cases.into_iter().unzip();
+    assert_eq!(answers(&lines), expected);
+}
+
+/// A ledger that is nearly full until it is opened anew.
+#[test]
+fn a_ledger_that_starts_as_told() {
+    let account = Account {
+        counter: 5,
+        total: u64::MAX - 1,
+    };
+    let start = Ledger::starting_with(&[(2, account)], u64::MAX - 1);
+    let mut program = Program::starting_with(Sound, &start);
+    for (line, answer) in [
+        ("total 2", "18446744073709551614 18446744073709551614"),
+        ("block 0200000007000000", "R 42"),
+        ("block 0200000006000000", "ok"),
+        ("total 2", "18446744073709551615 18446744073709551615"),
+        ("block 0200000007000000", "R 42"),
+        ("block 0200000006000000", "ok"),
+        ("ledger", "ok"),
+        ("total 2", "0 0"),
+        ("block 0200000007000000", "ok"),
     ] {
         assert_eq!(program.line(line.as_bytes()), answer, "{line}");
     }

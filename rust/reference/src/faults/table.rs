@@ -4,6 +4,7 @@
 use crate::card::Card;
 use crate::ends::{Ends, Sound, Start, TableEnd};
 use crate::host::{Answer, Host};
+use crate::ledger::Ledger;
 use crate::refusal;
 use crate::table::{MOST_CARDS, Region, Registered};
 use crate::wire::{self, FRAME_HEADER, FrameHeader, LONGEST_FRAME};
@@ -85,6 +86,7 @@ impl Ends for FaultyTables {
     type Card = Card;
     type Host = Host;
     type Table = FaultyTable;
+    type Ledger = Ledger;
 
     fn open_card(
         &self,
@@ -111,6 +113,10 @@ impl Ends for FaultyTables {
             entered: 0,
         };
         (table, refusal)
+    }
+
+    fn open_ledger(&self, start: &Ledger) -> Ledger {
+        Sound.open_ledger(start)
     }
 }
 

@@ -4,6 +4,7 @@
 
 use super::profile::Profile;
 use crate::book::Book;
+use crate::ledger::READING;
 use crate::list::{Call, Outcome};
 use crate::rng::Rng;
 use crate::wire::{FRAME_HEADER, MESSAGE_HEADER};
@@ -14,6 +15,8 @@ use std::ops::Range;
 const LONGEST_PIECE: usize = 24;
 /// Messages with data of one transaction at most.
 const MOST_PIECES: usize = 12;
+/// Readings of one block at most.
+const MOST_READINGS: usize = 12;
 
 /// What is left to do for a transaction.
 #[derive(Clone, Debug, Default)]
@@ -23,6 +26,8 @@ struct Plan {
     /// Messages without.
     empty: u32,
     reserved: Vec<Range<usize>>,
+    /// Where its block is, if it carries one.
+    block: Option<Range<usize>>,
     /// The last message waits until there are this many frames.
     hold: usize,
 }
@@ -118,6 +123,9 @@ impl Plans {
     pub fn opening(&mut self, rng: &mut Rng, profile: &Profile) -> Option<Call> {
         let mut plan = Plan::default();
         let completion = self.reserve(rng, 4, &mut plan)?;
+        if profile.blocks {
+            return self.opening_with_block(rng, profile, plan, completion);
+        }
         let count = self.count(rng, profile);
         plan.hold = if self.opened == 0 { profile.hold } else { 0 };
         let longest = LONGEST_PIECE.min(profile.limit - FRAME_HEADER - MESSAGE_HEADER);
@@ -137,6 +145,54 @@ impl Plans {
             address: completion.start as u32,
             value: rng.next_u32(),
         })
+    }
+
+    /// Opens a transaction with a block, if memory has room for it. Some blocks end in a cut
+    /// reading, and some transactions have messages without data too.
+    fn opening_with_block(
+        &mut self,
+        rng: &mut Rng,
+        profile: &Profile,
+        mut plan: Plan,
+        completion: Range<usize>,
+    ) -> Option<Call> {
+        let longest = profile.limit - FRAME_HEADER - MESSAGE_HEADER;
+        let cut = match rng.below(10) {
+            0 => rng.between(1, READING - 1),
+            _ => 0,
+        };
+        let size = match longest {
+            0 => 0,
+            _ => READING * rng.between(0, MOST_READINGS) + cut,
+        };
+        let Some(block) = self.reserve(rng, size, &mut plan) else {
+            set(&mut self.reserved, &plan.reserved, false);
+            return None;
+        };
+        let mut start = block.start;
+        while start < block.end {
+            let length = match rng.below(3) {
+                0 => rng.between(1, longest),
+                _ => longest,
+            };
+            let end = block.end.min(start + length);
+            plan.pieces.push(start..end);
+            start = end;
+        }
+        let count = plan.pieces.len() + rng.pick(&[0, 0, 0, 1, 2]);
+        plan.empty = (count.max(1) - plan.pieces.len()) as u32;
+        plan.block = Some(block);
+        self.opening = Some(plan);
+        Some(Call::Open {
+            count: count as u16,
+            address: completion.start as u32,
+            value: rng.next_u32(),
+        })
+    }
+
+    /// Where the block of a transaction is that carries one and is not finished.
+    pub fn block_of(&self, transaction: usize) -> Option<Range<usize>> {
+        self.plans.get(&transaction)?.block.clone()
     }
 
     /// How many data messages the next transaction has. Behind one that is held back

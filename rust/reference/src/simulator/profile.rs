@@ -31,6 +31,9 @@ pub struct Profile {
     /// The first transaction is kept unfinished for this many frames, and those after
     /// it have many messages; 0 for neither.
     pub hold: usize,
+    /// Transactions carry a block each, whose bytes lie in one row and are cut into messages
+    /// anywhere.
+    pub blocks: bool,
 }
 
 impl Profile {
@@ -61,6 +64,7 @@ impl Profile {
             late: rng.pick(&[0, 3, 10]),
             refused: rng.pick(&[0, 5, 20]),
             hold: 0,
+            blocks: false,
         }
     }
 
@@ -78,6 +82,7 @@ impl Profile {
             late: 2,
             refused: 1,
             hold,
+            blocks: false,
         }
     }
 

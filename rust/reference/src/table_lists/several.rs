@@ -3,9 +3,11 @@
 //! one memory. Whatever one of them does, the bytes of the others and those outside all
 //! regions stay, and all accepted answers sum to what the books hold.
 
+use crate::book::Book;
 use crate::demand::{Breach, Care, Setting, System};
 use crate::ends::{Ends, HostEnd, Start, TableEnd};
 use crate::host::{Answer, Host};
+use crate::ledger::Ledger;
 use crate::list::{Call, Outcome};
 use crate::premises;
 use crate::refusal;
@@ -134,6 +136,7 @@ impl<E: Ends> Ends for Joined<E> {
     type Card = E::Card;
     type Host = Place<E::Table>;
     type Table = E::Table;
+    type Ledger = E::Ledger;
 
     fn open_card(
         &self,
@@ -157,6 +160,10 @@ impl<E: Ends> Ends for Joined<E> {
 
     fn open_table(&self, own: u16) -> (E::Table, Option<u8>) {
         self.ends.open_table(own)
+    }
+
+    fn open_ledger(&self, start: &Ledger) -> E::Ledger {
+        self.ends.open_ledger(start)
     }
 }
 
@@ -331,6 +338,16 @@ impl<E: Ends> Several<E> {
     /// The region of a card that is registered.
     fn region(&self, source: u16) -> Region {
         self.joined.shared.borrow().regions[&source]
+    }
+
+    /// The book of a card that is registered.
+    pub fn book(&self, source: u16) -> &Book {
+        self.cards[&source].book()
+    }
+
+    /// The bytes that the shared memory has in the region of a card that is registered.
+    pub fn bytes_of(&self, source: u16) -> Vec<u8> {
+        self.joined.shared.borrow_mut().bytes_of(source).to_vec()
     }
 }
 
