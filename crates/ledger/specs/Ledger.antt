@@ -116,7 +116,7 @@ enteredAll l (r ∷ rs) =
 unfoldable pub allOrNothing : Ledger → Outcome → Outcome
 allOrNothing l o = record { refusal = o .refusal; ledger = cond (eqb (o .refusal) 0) (o .ledger) l }
 
--- A block: 40 if its length is no multiple of 8, and only then its readings are looked at.
+-- A block: 40 if its length is no multiple of 8; its readings are looked at only if it is one.
 unfoldable pub taken : Ledger → List ℕ → Outcome
 taken l block =
     cond (eqb (length block % 8) 0)
