@@ -7,6 +7,7 @@
 
 use crate::plain::card::Card;
 use crate::plain::host::{Answer, Host};
+use crate::plain::ledger::Ledger;
 use crate::plain::table::Table;
 
 /// A host that is called for every frame.
@@ -44,6 +45,18 @@ pub trait TableEnd {
         source: &mut u16,
         answer: &mut <Self::Host as HostEnd>::Answer,
     );
+}
+
+/// A ledger that is called for every block.
+pub trait LedgerEnd {
+    /// A fresh one; unless `charged` is 0, subscriber 0 was read at 0 and has this total.
+    fn fresh(charged: u64) -> Self;
+    /// Takes a block; gives 0 or a refusal's number.
+    fn take(&mut self, block: &[u8]) -> u32;
+    /// A subscriber's total, if it was ever read.
+    fn total(&self, subscriber: u32) -> Option<u64>;
+    /// The sum of all totals.
+    fn sum(&self) -> u64;
 }
 
 /// A card that is called for every step; each gives 0 or a refusal's number.
@@ -182,6 +195,34 @@ impl TableEnd for Table {
 }
 
 #[inline(never)]
+extern "C" fn plain_take(ledger: &mut Ledger, block: &[u8]) -> u32 {
+    ledger.take(block).map_or_else(u32::from, |()| 0)
+}
+
+impl LedgerEnd for Ledger {
+    fn fresh(charged: u64) -> Ledger {
+        let mut ledger = Ledger::open();
+        if charged > 0 {
+            ledger.put(0, 0, charged);
+        }
+        ledger
+    }
+
+    #[inline(always)]
+    fn take(&mut self, block: &[u8]) -> u32 {
+        plain_take(self, block)
+    }
+
+    fn total(&self, subscriber: u32) -> Option<u64> {
+        Ledger::total(self, subscriber)
+    }
+
+    fn sum(&self) -> u64 {
+        Ledger::sum(self)
+    }
+}
+
+#[inline(never)]
 extern "C" fn plain_open(
     card: &mut Card,
     count: u16,
@@ -268,8 +309,8 @@ impl CardEnd for Card {
 /// The proved ends, through the exported functions.
 #[cfg(feature = "proved")]
 pub mod proved {
-    use super::{CardEnd, HostEnd, TableEnd};
-    use logwhisker::raw::{self, ANSWER_WORDS, CARD_WORDS, HOST_WORDS, TABLE_WORDS};
+    use super::{CardEnd, HostEnd, LedgerEnd, TableEnd};
+    use logwhisker::raw::{self, ANSWER_WORDS, CARD_WORDS, HOST_WORDS, LEDGER_WORDS, TABLE_WORDS};
 
     /// The proved host.
     pub struct Host([u64; HOST_WORDS]);
@@ -335,6 +376,36 @@ pub mod proved {
             answer: &mut [u64; ANSWER_WORDS],
         ) {
             raw::table_receive(&mut self.0, frame, memory, source, answer);
+        }
+    }
+
+    /// The proved ledger.
+    pub struct Ledger(Box<[u64; LEDGER_WORDS]>);
+
+    impl LedgerEnd for Ledger {
+        fn fresh(charged: u64) -> Ledger {
+            let mut words = Box::new([0; LEDGER_WORDS]);
+            raw::ledger_open(&mut words);
+            if charged > 0 {
+                (words[0], words[1]) = (charged, 1 << 32);
+                words[LEDGER_WORDS - 1] = charged;
+            }
+            Ledger(words)
+        }
+
+        #[inline(always)]
+        fn take(&mut self, block: &[u8]) -> u32 {
+            raw::ledger_take(&mut self.0, block)
+        }
+
+        fn total(&self, subscriber: u32) -> Option<u64> {
+            let mut total = 0;
+            let read = raw::ledger_total(&self.0, subscriber, &mut total);
+            (read != 0).then_some(total)
+        }
+
+        fn sum(&self) -> u64 {
+            raw::ledger_sum(&self.0)
         }
     }
 

@@ -1,11 +1,12 @@
-//! Times both ends and tables of sixteen cards, the proved ones against plain ones, each
-//! called for every frame or step across the same boundary, in turns in one process, and
-//! prints the best and the median of the turns. The proved table is timed against proved
+//! Times both ends, tables of sixteen cards and ledgers, the proved ones against plain ones,
+//! each called for every frame, step or block across the same boundary, in turns in one
+//! process, and prints the best and the median of the turns. The proved table is timed against proved
 //! hosts on the same frames too. What all give is compared before anything is timed. Build it
 //! with the profile `bench-release`, which leaves out the checks that tests run with. With an
 //! argument it times only the lines whose name has it, such as `'table, d'`.
 
 use bench::ends::{CardEnd, HostEnd, plain_marks};
+use bench::ledgers::{BLOCK, KINDS, Kind, LedgerRun};
 use bench::plain;
 use bench::shapes::{CARDS, Cards, FIRST_SOURCE, MEMORY, SHAPES, Shape};
 use bench::steps::{SLOTS, STEPS, Steps};
@@ -21,6 +22,8 @@ const FROM_CACHE: usize = 512;
 const TURNS_FROM_MEMORY: usize = 24;
 const TURNS_FROM_CACHE: usize = 600;
 const TURNS_OF_STEPS: usize = 400;
+/// Blocks of readings that stay in a cache.
+const BLOCKS_FROM_CACHE: usize = 64;
 /// The shapes that a table gets from memory as well: the one of large frames, and d.
 const FROM_MEMORY_AT_TABLES: [usize; 2] = [0, 3];
 /// Frames of a table come in blocks of 32 for each of its cards.
@@ -46,6 +49,10 @@ fn main() {
         time_card(name, steps);
     }
     time_marks();
+    for kind in KINDS {
+        time_ledger(kind, FROM_MEMORY / BLOCK, 1, TURNS_FROM_MEMORY, "memory");
+        time_ledger(kind, BLOCKS_FROM_CACHE, 8, TURNS_FROM_CACHE, "cache");
+    }
     println!(
         "{:<42} {:>21} {:>21} {:>21} {:>8} {:>8}",
         "ns: best (median)", "plain table", "proved table", "proved host", "to plain", "to host"
@@ -308,6 +315,25 @@ fn time_marks() {
         timed.push(Box::new(proved));
     }
     time(name, words.len(), TURNS_OF_STEPS, None, &mut timed);
+}
+
+/// Blocks of readings, so many in so many passes.
+fn time_ledger(kind: Kind, count: usize, passes: usize, turns: usize, from: &str) {
+    let name = format!("ledger, {}, {from}", kind.name);
+    if !is_wanted(&name) {
+        return;
+    }
+    let blocks = kind.blocks(count);
+    let plain = LedgerRun::<plain::ledger::Ledger>::new(kind, &blocks, passes);
+    let mut timed: Vec<Turn> = vec![Box::new(plain)];
+    #[cfg(feature = "proved")]
+    {
+        use bench::ends::proved::Ledger;
+        use bench::ledgers::compare;
+        compare::<plain::ledger::Ledger, Ledger>(kind, &blocks);
+        timed.push(Box::new(LedgerRun::<Ledger>::new(kind, &blocks, passes)));
+    }
+    time(&name, count * passes, turns, None, &mut timed);
 }
 
 /// All that a card gives in some turns, and the slots that it leaves.
