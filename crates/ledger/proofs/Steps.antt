@@ -8,7 +8,7 @@ use mathlib.Core.Bool.{Bool, true, false, cond}
 use mathlib.Core.List.{List, [], _∷_, _++_}
 use borrow.Author.Tests.{lt-ltb, le-ltb, le-leb, lt-leb, eqb-true, ne-eqb}
 use lib.Dec.{eqb, leb}
-use lib.ListN.{length, getD, set, length-set}
+use lib.ListN.{length, length-set}
 use Rattle.seq.specs.Ring.{distance}
 use Rattle.seq.proofs.Ring.{distance-lt}
 use Rattle.ledger.specs.Ledger.{Ledger, Reading, Outcome, subscribers, counterSpace}

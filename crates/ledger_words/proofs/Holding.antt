@@ -7,11 +7,10 @@ use mathlib.Core.Bool.{true, false, cond}
 use mathlib.Core.List.{List}
 use borrow.Author.Tests.{le-leb}
 use lib.Dec.{leb}
-use lib.ListN.{length, getD, set, replicate, length-set, getD-replicate}
+use lib.ListN.{length, getD, set, length-set}
 use lib.Seq.{getD-set-same, getD-set-other}
 use Rattle.seq.specs.Ring.{distance}
-use Rattle.words.specs.Words.{listed}
-use Rattle.words.proofs.Listed.{length-listed, listed-at, listed-same, listed-set, listed-all}
+use Rattle.words.proofs.Listed.{listed-at, listed-same, listed-set, listed-all}
 use Rattle.ledger.specs.Ledger.{Ledger, ledgerOf, subscribers, counterSpace, readingOf, seenOf, counterOf, totalOf}
 use Rattle.ledger.specs.Ledger.{empty, charge, entered}
 use Rattle.ledger_words.specs.LedgerWords.{ledgerWords, totalIn, counterIn, readIn, accountsIn, ledgerIn}

@@ -12,7 +12,7 @@ use lib.Dec.{eqb, ltb}
 use lib.ListN.{length, getD, set}
 use lib.Seq.{getD-set-same, getD-set-other, set-out}
 use Rattle.ledger.specs.Ledger.{Ledger, Reading, subscribers, counterSpace, most, totalOf}
-use Rattle.ledger.specs.Ledger.{charge, fault, entered, enteredAll}
+use Rattle.ledger.specs.Ledger.{charge, entered, enteredAll}
 use Rattle.ledger_words.specs.Room.{orSubscribers, orTotals, roomFor, half, readingsMost}
 use Rattle.ledger.proofs.Steps.{charge-lt, no-fault, goes-on, none-left}
 

@@ -10,7 +10,7 @@ use Rattle.words.specs.Words.{listed}
 use Rattle.words.proofs.Listed.{length-listed}
 use Rattle.ledger.specs.Ledger.{subscribers, counterSpace}
 use Rattle.ledger_words.specs.declared.SubscriberTotal.{SubscriberTotal}
-use Rattle.ledger_words.specs.LedgerWords.{totalIn, readIn, accountsIn, ledgerIn}
+use Rattle.ledger_words.specs.LedgerWords.{readIn, accountsIn, ledgerIn}
 use Rattle.ledger_words.specs.LedgerCalls.{toldTotal}
 use Rattle.ledger_words.proofs.Holding.{seen-at, total-at}
 

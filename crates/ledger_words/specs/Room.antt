@@ -2,7 +2,7 @@
 -- proofs/Room.antt shows that no fault is missed. Numbers are or-ed, which is at least as large as each of them, and
 -- below a power of 2 if all of them are.
 use Prim.Native.Nat.{ℕ, _%_}
-use mathlib.Core.Bool.{Bool, true, false, cond}
+use mathlib.Core.Bool.{Bool, false, cond}
 use mathlib.Core.List.{List, [], _∷_}
 use lib.Bits.{bitOr}
 use lib.Dec.{leb, ltb}

@@ -44,8 +44,8 @@ same-length-2 c = search needs
 
 returns-3 : tie.Need-returns-3
 returns-3 c =
-    let a = c .before .before .before .before .before .before .before .before .before .before .args in
     let e = c .before .before in
+    let a = e .before .before .before .before .before .before .before .before .args in
     let z = sym (e .before .before .before .judge .ensures) ∙ e .before .before .if2 .left in
     let t = accepted-block (ledgerIn (a .words .now)) (a .block .now) z in (
       (
