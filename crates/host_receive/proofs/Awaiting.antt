@@ -10,10 +10,7 @@ use Rattle.wire.specs.declared.FrameHeader.{FrameHeader}
 use Rattle.wire.specs.Format.{Message}
 use Rattle.wire.specs.Reading.{flags, addressed, heading_of, refusal_of, messages_from, or_passes_end}
 use Rattle.wire.proofs.Reading.{Framed, heading-stops, heading-stands, read_none, read-messages}
-use Rattle.wire_read.specs.declared.Found.TheVariants.{PastEnd}
-use Rattle.wire_read.specs.Finding.{header_of, found_at}
-use Rattle.wire_read.specs.Layout.{are_there, whole_from}
-use Rattle.wire_read.proofs.Finding.{is-past, step_past}
+use Rattle.wire_read.specs.Finding.{header_of}
 use Rattle.host.specs.declared.Pair.{Pair}
 use Rattle.host.specs.declared.Answer.{Answer}
 use Rattle.host.specs.declared.Answer.TheVariants.{Accepted, Again, NoMessages}
@@ -48,10 +45,10 @@ use Rattle.host_receive.specs.declared.validate.Validated.{Validated}
 use Rattle.host_receive.specs.Validating.{none_yet, validated_from, validated_of}
 use Rattle.host_receive.proofs.validate.Walk.{validated-short}
 use Rattle.host_receive.specs.Applying.{applied_from}
-use Rattle.host_receive.specs.Refusing.{refused_from, number_answered}
+use Rattle.host_receive.specs.Refusing.{refused_with, number_answered}
 use Rattle.host_receive.specs.Numbering.{accepted_head, run_of_accepted}
 use Rattle.host_receive.specs.Receiving.{Awaited}
-use Rattle.host_receive.proofs.Passes.{tally_of_both, taken-all, not-taken-all, refused-place, validated-cut}
+use Rattle.host_receive.proofs.Passes.{tally_of_both, taken-all, not-taken-all, validated-cut}
 
 -- nothing changed, in its three parts
 pub stays : (p : Pair) (f memory : List ℕ) (a : Answer) → receive_of p f memory ≡ unchanged p memory a
@@ -111,10 +108,6 @@ module _ (p : Pair) (f memory : List ℕ) (num d : ℕ) (w : Awaited p f num d) 
   awaited-cut e =
       let q = awaited-read ∙ ap or_passes_end e in
       (ap refusal_of q, received-bad p f memory 5 q)
-
-  -- its first message passes the end
-  pub new-cut : found_at f 10 ≡ PastEnd → receive_of p f memory ≡ unchanged p memory (refused 5 0)
-  new-cut e = (awaited-cut (step_past f 10 (length f) (is-past f 10 e))).1
 
   -- it has messages
   awaited-some : (ms : List Message) → messages_from (length f) f 10 ≡ some ms
@@ -219,19 +212,17 @@ module _ (p : Pair) (f memory : List ℕ) (num d : ℕ) (w : Awaited p f num d) 
       v-is = right ∙ validated-short f (transactions_of p) (length memory) w.most
 
       pub new-refused : v.refusal ≢ 0
-          → receive_of p f memory ≡ unchanged p memory (refused_from f v.at v.refusal v.messages)
-      unfolding refused_from
+          → receive_of p f memory ≡ unchanged p memory (refused_with p.own p.peer f v.refusal v.messages)
+      unfolding refused_with
       new-refused ne = rw v-is (go (messages_from (length f) f 10) refl)
         where
-          whole : are_there (messages_from (length f) f 10) ≡ whole_from f found.at
-          whole =
-              refused-place f (length memory) (length f) 10 (none_yet (transactions_of p)) (omega arith) (rw v-is at ne)
-
           go : (r : Option (List Message)) → messages_from (length f) f 10 ≡ r
               → receive_of p f memory
-              ≡ unchanged p memory (refused_from f found.at found.refusal found.messages)
-          go none e = rw (← whole, e) (awaited-cut e).1
-          go (some ms) e = rw (← whole, e) (refused-new ms e (rw v-is at ne))
+              ≡ unchanged p memory (refused_with p.own p.peer f found.refusal found.messages)
+          go none e =
+              let c = awaited-cut e in
+              rw c.0 c.1
+          go (some ms) e = rw (awaited-some ms e).0 (refused-new ms e (rw v-is at ne))
 
       pub new-taken : v.refusal ≡ 0 → receive_of p f memory ≡ effected v
       new-taken ok = rw v-is (go (messages_from (length f) f 10) refl)

@@ -1,27 +1,23 @@
 -- Two passes over a frame's messages, first validating all and then applying them, come to what taking them in one
 -- after another does. Assumes nothing.
-use Rattle.std.proofs.Common.{◌≡◌, ℕ, zero, suc, ◌+◌, ◌%◌, ◌<◌, ◌≤◌, Bool, true, false, eqb, ◌≢◌, List, [], ◌∷◌, length, get_or, sym, refl, ap, ◌∙◌, add-one, arith, eq-eqb, ne_eqb, eqb-true}
+use Rattle.std.proofs.Common.{◌≡◌, ℕ, zero, suc, ◌+◌, ◌%◌, ◌≤◌, Bool, true, false, eqb, ◌≢◌, List, [], ◌∷◌, length, get_or, sym, refl, ap, ◌∙◌, add-one, arith, eq-eqb, ne_eqb, eqb-true}
 use mathlib.Core.Option.{Option, none, some}
 use native.Mathlib.Decide.{dec_le}
 use borrow.Author.Tests.{eqb-false}
 use Rattle.octets.specs.Octets.{field}
-use Rattle.wire.specs.declared.MessageHeader.{MessageHeader}
 use Rattle.wire.specs.Format.{Message, message_header, next_header}
 use Rattle.wire.specs.Reading.{follows, data_end, message_at, prepend, messages_from}
 use Rattle.wire.proofs.Reading.{Headed, unread, headed}
-use Rattle.wire.proofs.Format.{next-after}
-use Rattle.wire_read.specs.Layout.{are_there, whole_from}
 use Rattle.wire_read.proofs.Finding.{step-last, step-more}
-use Rattle.wire_read.proofs.layout.Rest.{rest_more, turns-enough}
 use Rattle.host.specs.declared.Open.{Open}
 use Rattle.host.specs.declared.Verdict.{Verdict}
 use Rattle.host.specs.Terms.{free}
-use Rattle.host.specs.Transactions.{fills, left_in, closed_verdict, open_verdict, verdict_of, Transactions, verdict, after}
+use Rattle.host.specs.Transactions.{fills, left_in, closed_verdict, open_verdict, Transactions, verdict, after}
 use Rattle.host.specs.Host.{effect, Tally, take_in, fine, wrong, take_all}
 use Rattle.host.proofs.Judging.{closes, holds}
 use Rattle.host.proofs.Receiving.{length-effect}
 use Rattle.host_receive.specs.declared.validate.Validated.{Validated}
-use Rattle.host_receive.specs.Validating.{Progress, onward, refused_at, passed, validated_from}
+use Rattle.host_receive.specs.Validating.{Progress, onward, passed, validated_from}
 use Rattle.host_receive.proofs.validate.Walk.{
   its-verdict,
   validated-past,
@@ -34,31 +30,24 @@ use Rattle.host_receive.proofs.apply.Walk.{applied-more}
 
 -- ---- what a message that is not refused does, by its entry
 
-pub settled-by : (lowest closed : ℕ) (o : Open) (h : MessageHeader) (len size : ℕ)
-    → (verdict_of lowest closed o h len size).refusal ≡ 0
-    → ((verdict_of lowest closed o h len size).done ≡ fills o h)
-    × ((verdict_of lowest closed o h len size).entry ≡ left_in o h)
-unfolding closed_verdict open_verdict
-settled-by lowest closed o h len size ok = go (fills o h) refl
-  where
-    go : (b : Bool) → fills o h ≡ b
-        → ((verdict_of lowest closed o h len size).done ≡ fills o h)
-        × ((verdict_of lowest closed o h len size).entry ≡ left_in o h)
-    go true z =
-        let e = closes lowest closed o h len size ok z in
-        (rw (e, z), rw (e, z))
-    go false z =
-        let e = holds lowest closed o h len size ok z in
-        (rw (e, z), rw (e, z))
-
 module _ (t : Transactions) (size : ℕ) (m : Message) (ok : (verdict t size m).refusal ≡ 0) where
   abbrev o : Open
   o = get_or t.table (m.trans % 32) free
 
   settled : ((verdict t size m).done ≡ fills o (message_header m))
       × ((verdict t size m).entry ≡ left_in o (message_header m))
-  unfolding verdict
-  settled = settled-by t.lowest t.closed o (message_header m) (length m.bytes) size ok
+  unfolding verdict closed_verdict open_verdict
+  settled = go (fills o (message_header m)) refl
+    where
+      go : (b : Bool) → fills o (message_header m) ≡ b
+          → ((verdict t size m).done ≡ fills o (message_header m))
+          × ((verdict t size m).entry ≡ left_in o (message_header m))
+      go true z =
+          let e = closes t.lowest t.closed o (message_header m) (length m.bytes) size ok z in
+          (rw (e, z), rw (e, z))
+      go false z =
+          let e = holds t.lowest t.closed o (message_header m) (length m.bytes) size ok z in
+          (rw (e, z), rw (e, z))
 
 -- ---- taking in, by what is judged
 
@@ -239,52 +228,6 @@ not-taken-all f size zero at g memory ms same e ne = absurd (unread f at ms e)
 not-taken-all f size (suc n) at g memory ms same e ne =
     not-taken-of f size n at g memory ms same (headed f n at ms e) ne
     (λ g' mem rest s q z. not-taken-all f size n (next_header (data_end f at)) g' mem rest s q z)
-
--- what stands from the refused message on tells for the whole layout
-place-of : (f : List ℕ) (size n at : ℕ) (g : Progress) → length f < at + suc n
-    → (validated_from (suc n) f size at g).refusal ≢ 0
-    → ((g' : Progress) → length f < next_header (data_end f at) + n
-    → (validated_from n f size (next_header (data_end f at)) g').refusal ≢ 0
-    → are_there (messages_from n f (next_header (data_end f at)))
-    ≡ whole_from f (validated_from n f size (next_header (data_end f at)) g').at)
-    → are_there (messages_from (suc n) f at) ≡ whole_from f (validated_from (suc n) f size at g).at
-place-of f size n at g enough ne ih = past (dec_le (data_end f at) (length f))
-  where
-    w : Verdict
-    w = its-verdict f size at g
-
-    Settled : Type 0
-    Settled = are_there (messages_from (suc n) f at) ≡ whole_from f (validated_from (suc n) f size at g).at
-
-    here : (r : ℕ) → validated_from (suc n) f size at g ≡ refused_at r g.messages at → Settled
-    here r e =
-        turns-enough (suc n) f at (omega (arith, enough))
-        ∙ ap (whole_from f) (sym (ap (λ (r : Validated). r.at) e))
-
-    go : data_end f at ≤ length f → (a : Bool) → eqb w.refusal 0 ≡ a → (b : Bool) → follows (field f (at + 23) 1) ≡ b
-        → Settled
-    go inside false y b z = here w.refusal (validated-stops f size at g n inside (eqb-false w.refusal 0 y))
-    go inside true y false z =
-        let e = validated-last f size at g n inside (eqb-true w.refusal 0 y) z in
-        absurd (ne (ap (λ (r : Validated). r.refusal) e))
-    go inside true y true z =
-        let e = validated-more f size at g n inside (eqb-true w.refusal 0 y) z in
-        rest_more f at n inside z
-        ∙ ih (onward g (message_at f at) w) (omega (arith, enough, next-after (data_end f at)))
-        (λ q. ne (ap (λ (r : Validated). r.refusal) e ∙ q))
-        ∙ ap (whole_from f) (sym (ap (λ (r : Validated). r.at) e))
-
-    past : Dec (data_end f at ≤ length f) → Settled
-    past (yes h) = go h (eqb w.refusal 0) refl (follows (field f (at + 23) 1)) refl
-    past (no h) = here 5 (validated-past f size at g (suc n) (omega arith))
-
-pub refused-place : (f : List ℕ) (size turns at : ℕ) (g : Progress) → length f < at + turns
-    → (validated_from turns f size at g).refusal ≢ 0
-    → are_there (messages_from turns f at) ≡ whole_from f (validated_from turns f size at g).at
-unfolding validated_from
-refused-place f size zero at g enough ne = turns-enough zero f at (omega (arith, enough))
-refused-place f size (suc n) at g enough ne =
-    place-of f size n at g enough ne (λ g' l q. refused-place f size n (next_header (data_end f at)) g' l q)
 
 -- ---- a frame whose layout is bad
 

@@ -1,5 +1,4 @@
 pub mod Counting
-pub mod Judging
 pub mod Applying
 pub mod Validating
 pub mod Refusing

@@ -2,22 +2,15 @@
 -- shows that it is what by_number and accepting of host/specs/Host.antt say.
 use Rattle.std.specs.Prelude.{◌≡◌, ℕ, Bool, false, cond, not, List, length, nat_le}
 use Rattle.seq.specs.Ring.{distance, frame_space}
-use Rattle.bitmap.specs.Marks.{mark, with_mark, trailing_ones}
-use Rattle.bitmap.specs.Window.{shifted_past, marked_and_moved}
+use Rattle.bitmap.specs.Marks.{mark, with_mark}
+use Rattle.bitmap.specs.Window.{marked_and_moved}
 use Rattle.host_receive.specs.Counting.{run_within}
-use Rattle.host_receive.specs.declared.number.Moved.{Moved}
 use Rattle.host_words.specs.declared.Head.{Head}
 use Rattle.host_words.specs.Words.{word_count, pair_of, head_part, joined}
 
 -- Whether a frame d past the next one is in the window and was not accepted yet.
 unfoldable pub is_new : ℕ → ℕ → Bool
 is_new marks d = cond (nat_le 64 d) false (not (mark marks d))
-
--- A window of marks after mark d was set: the run from that mark on, how far the window moves, and its marks then.
-abbrev pub Moves : ℕ → ℕ → Moved → Type 0
-Moves marks d r =
-    (r.run ≡ run_within (with_mark 64 marks d) d) × (r.past ≡ trailing_ones 64 (with_mark 64 marks d))
-    × (r.marks ≡ shifted_past (trailing_ones 64 (with_mark 64 marks d)) (with_mark 64 marks d))
 
 -- What stands before the table after a frame was accepted, with the transactions' window that it leaves.
 unfoldable pub accepted_head : Head → ℕ → ℕ → ℕ → Head

@@ -3,9 +3,6 @@ use Rattle.std.specs.Prelude.{◌≡◌, ℕ, ◌^◌, ◌<◌, ◌≤◌, true,
 use Rattle.seq.specs.Ring.{distance, frame_space}
 use Rattle.bitmap.specs.Marks.{mark}
 use Rattle.wire.specs.Reading.{number, flags, addressed}
-use Rattle.wire.specs.declared.MessageHeader.{MessageHeader}
-use Rattle.wire_read.specs.declared.Found.TheVariants.{Whole}
-use Rattle.wire_read.specs.Finding.{found_at}
 use Rattle.host.specs.declared.Answer.{Answer}
 use Rattle.host.specs.declared.Pair.{Pair}
 use Rattle.host.specs.Host.{refused, receive_of, LeavesWords}
@@ -41,8 +38,3 @@ TakesFrame w f memory num left memory-left a =
     (d : ℕ) → Awaited (pair_of w) f num d → d < 64 → mark (pair_of w).marks d ≡ false → length w ≡ word_count
     → (pair_of left ≡ (receive_of (pair_of w) f memory).pair) × (memory-left ≡ (receive_of (pair_of w) f memory).memory)
     × (a ≡ (receive_of (pair_of w) f memory).answer) × LeavesWords a w left
-
--- The same of a frame whose first message, with this header and this length of data, is its last.
-abbrev pub TakesOne : List ℕ → List ℕ → List ℕ → ℕ → MessageHeader → ℕ → List ℕ → List ℕ → Answer → Type 0
-TakesOne w f memory num h len left memory-left a =
-    (next : ℕ) → found_at f 10 ≡ Whole h len false next → TakesFrame w f memory num left memory-left a

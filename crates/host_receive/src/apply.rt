@@ -13,7 +13,7 @@ use wire::MessageHeader;
 use wire_read::Found;
 
 // A message's data at its address, and straight after it the completion where the message completes its transaction.
-pub(crate) fn write_message(memory: &mut [u8], h: MessageHeader, payload: &[u8], done: bool)
+fn write_message(memory: &mut [u8], h: MessageHeader, payload: &[u8], done: bool)
     ensures { memory.new ≡ effect memory.old (carrying h payload.now) done }
 {
     octets::write(memory, h.data_address as usize, payload);

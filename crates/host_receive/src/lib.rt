@@ -7,7 +7,6 @@ pub mod message;
 pub mod number;
 pub mod refuse;
 pub mod run;
-pub mod single;
 pub mod validate;
 pub mod verdict;
 
@@ -15,17 +14,23 @@ ghost use Rattle.host_receive.specs.Receiving.{Receives, TakesFrame};
 
 use host::{Answer, Sums};
 use seq::FrameNo;
-use wire_read::{Found, layout};
+use wire_read::layout;
 
 // A frame with messages, in the window and not accepted yet: its messages are validated, and where none is refused all
 // take effect. The first pass finds a bad layout by itself.
-fn take_many(words: &mut [u64], f: &[u8], memory: &mut [u8], number: FrameNo) -> Answer
+fn take_in(words: &mut [u64], f: &[u8], memory: &mut [u8], number: FrameNo) -> Answer
     ensures { TakesFrame words.old f.now memory.old number.0
         words.new memory.new result }
 {
     let found = validate::validate(words, f, memory.len());
     if found.refusal != 0 {
-        return refuse::refuse(f, found.at, found.refusal, found.messages);
+        return refuse::refuse(
+            host_words::own(words),
+            host_words::peer(words),
+            f,
+            found.refusal,
+            found.messages,
+        );
     }
     apply::apply(words, f, memory, found.messages);
     let lowest = found.lowest;
@@ -39,23 +44,6 @@ fn take_many(words: &mut [u64], f: &[u8], memory: &mut [u8], number: FrameNo) ->
         },
         run,
     )
-}
-
-// The same, with a frame of one message taken in by a single walk.
-fn take_in(words: &mut [u64], f: &[u8], memory: &mut [u8], number: FrameNo) -> Answer
-    ensures { TakesFrame words.old f.now memory.old number.0
-        words.new memory.new result }
-{
-    let first = wire_read::message_at(f, wire::FRAME_HEADER);
-    match first {
-        Found::PastEnd => refuse::refusing(refusal::PAST_FRAME_END, 0),
-        Found::Whole(h, len, more, _) => {
-            if more {
-                return take_many(words, f, memory, number);
-            }
-            single::take_one(words, f, memory, number, h, len)
-        }
-    }
 }
 
 // Receives a frame in 67 words. They and the memory change only where the frame is accepted.

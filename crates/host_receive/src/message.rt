@@ -57,7 +57,7 @@ fn terms_refusal(d: u32, closed: u32, o: Open, h: MessageHeader, len: u16) -> u8
 
 // The refusal 7 to 10, where there is one, or else 11 or 12 against a memory of size bytes. The sums are taken in words
 // wide enough for them.
-pub(crate) fn or_address_refusal(terms: u8, size: usize, h: MessageHeader, len: u16) -> u8
+fn or_address_refusal(terms: u8, size: usize, h: MessageHeader, len: u16) -> u8
     ensures { result ≡ first_of terms (address_refusal size h len) }
 {
     let data_end = h.data_address as usize + len as usize;

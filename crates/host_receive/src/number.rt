@@ -3,7 +3,7 @@
 ghost use Rattle.std.specs.Prelude.{◌≡◌};
 ghost use Rattle.host_words.specs.Words.{pair_of, head_part};
 ghost use Rattle.host_words.specs.Updating.{with_head};
-ghost use Rattle.host_receive.specs.Numbering.{is_new, Moves, accepted_head, run_of_accepted, Accepts};
+ghost use Rattle.host_receive.specs.Numbering.{is_new, accepted_head, run_of_accepted, Accepts};
 
 use crate::run;
 use bitmap::word64;
@@ -23,38 +23,6 @@ pub(crate) fn is_new(marks: u64, d: u16) -> bool
     true
 }
 
-// A window of marks after one was set: how many marks are set from that one on, how far the window moves, and the marks
-// that it has then.
-#[derive(Drop)]
-struct Moved {
-    run: u8,
-    past: u16,
-    marks: u64,
-}
-
-// Sets mark d and moves the window past the set marks that it begins with then. Where frames arrive in order it moves by
-// one, which needs no marks.
-fn set_and_move(marks: u64, d: u16) -> Moved
-    ensures { Moves marks d result }
-{
-    if d == 0 {
-        if marks == 0 {
-            return Moved {
-                run: 1,
-                past: 1,
-                marks: 0,
-            };
-        }
-    }
-    let marked = word64::with_mark(marks, d as u32);
-    let past = word64::trailing_ones(marked);
-    Moved {
-        run: run::run_within(marked, d),
-        past: past as u16,
-        marks: word64::shifted(marked, past),
-    }
-}
-
 // A frame is accepted: it is marked, the window begins at the first number that is not accepted, and the transactions'
 // window is the one that the frame leaves. Answers the run of numbers that the frame acknowledges.
 pub(crate) fn accept(words: &mut [u64], number: FrameNo, lowest: TransNo, closed: u32) -> u8
@@ -65,15 +33,18 @@ pub(crate) fn accept(words: &mut [u64], number: FrameNo, lowest: TransNo, closed
 {
     let next = host_words::next(words);
     let d = number.distance(next);
-    let window = set_and_move(host_words::marks(words), d);
+    let marks = host_words::marks(words);
+    let marked = word64::with_mark(marks, d as u32);
+    let run = run::run_within(marked, d);
+    let past = word64::trailing_ones(marked);
     let head = Head {
         own: host_words::own(words),
         peer: host_words::peer(words),
-        next: next.advance(window.past),
-        marks: window.marks,
+        next: next.advance(past as u16),
+        marks: word64::shifted(marked, past),
         lowest,
         closed,
     };
     update::put_head(words, head);
-    window.run
+    run
 }

@@ -4,7 +4,7 @@ ghost use Rattle.std.specs.Prelude.{◌≡◌};
 ghost use Rattle.host.specs.declared.Answer.TheVariants.{Again};
 ghost use Rattle.host.specs.Host.{refused};
 ghost use Rattle.host_receive.specs.Counting.{run_at};
-ghost use Rattle.host_receive.specs.Refusing.{refused_from, number_answered};
+ghost use Rattle.host_receive.specs.Refusing.{refused_with, number_answered};
 
 use crate::run;
 use host::{Answer, Refusal};
@@ -25,15 +25,15 @@ fn again(number: FrameNo, marks: u64, d: u16) -> Answer
     Answer::Again(number, run::run_at(marks, d))
 }
 
-// The answer to a frame of which the message at an offset is refused. The layout from there on comes first; what stands
-// before it was read on the way.
-pub(crate) fn refuse(f: &[u8], at: usize, stop: u8, place: u32) -> Answer
-    ensures { result ≡ refused_from f.now at stop place }
+// The answer to a frame of which a message is refused: its layout, past that message too, comes first.
+pub(crate) fn refuse(own: u16, peer: u16, f: &[u8], stop: u8, place: u32) -> Answer
+    ensures { result ≡ refused_with own peer f.now stop place }
 {
-    if layout::is_whole_from(f, at) {
-        return refusing(stop, place);
+    let cut = layout::refusal_of(f, own, peer);
+    if cut != 0 {
+        return refusing(cut, 0);
     }
-    refusing(refusal::PAST_FRAME_END, 0)
+    refusing(stop, place)
 }
 
 // The answer to a frame with messages, d past the next one, that is behind, ahead, or in the window and accepted

@@ -1,8 +1,7 @@
 -- What is said of a frame as a whole, by cases of what the format says of it.
-use Rattle.std.specs.Prelude.{ℕ, ◌+◌, Bool, true, false, List, [], ◌∷◌, length}
-use Rattle.std.proofs.Math.Option.{Option, none, some}
+use Rattle.std.specs.Prelude.{ℕ, ◌+◌, List, [], ◌∷◌, length}
 use Rattle.wire.specs.Format.{Message}
-use Rattle.wire.specs.Reading.{Read, bad, good, messages_from}
+use Rattle.wire.specs.Reading.{Read, bad, good}
 use Rattle.wire_read.specs.declared.layout.Layout.{Layout}
 use Rattle.wire_read.specs.declared.layout.Layout.TheVariants.{Refused, Counts}
 
@@ -32,11 +31,3 @@ bytes_of (Counts messages bytes) = bytes
 abbrev pub unless_refused : Layout → ℕ → ℕ
 unless_refused (Refused r) n = 0
 unless_refused (Counts messages bytes) n = n
-
--- Whether the messages from the header at an offset on all lie in the frame.
-abbrev pub are_there : Option (List Message) → Bool
-are_there none = false
-are_there (some ms) = true
-
-unfoldable pub whole_from : List ℕ → ℕ → Bool
-whole_from f at = are_there (messages_from (length f) f at)

@@ -1,7 +1,6 @@
 // A lent frame as a whole: its refusal, 1 to 5 in their order, or how many messages it has and how many data bytes they
-// carry; refusals 1 to 4 by themselves, which need no walk over the messages; and whether the messages from an offset
-// on lie in the frame. Assumes nothing: any bytes get an answer. It promises what wire/specs/Reading.antt and
-// specs/Layout.antt say.
+// carry; and refusals 1 to 4 by themselves, which need no walk over the messages. Assumes nothing: any bytes get an
+// answer. It promises what wire/specs/Reading.antt and specs/Layout.antt say.
 ghost use Rattle.std.specs.Prelude.{◌≡◌, true, ◌≤◌, length};
 ghost use Rattle.wire.specs.Reading.{
   flags,
@@ -12,7 +11,7 @@ ghost use Rattle.wire.specs.Reading.{
   or_passes_end,
   messages_from,
 };
-ghost use Rattle.wire_read.specs.Layout.{layout_of, number_of, messages_of, bytes_of, whole_from};
+ghost use Rattle.wire_read.specs.Layout.{layout_of, number_of, messages_of, bytes_of};
 
 use crate::Found;
 
@@ -157,26 +156,4 @@ pub fn refusal_of(f: &[u8], own: u16, peer: u16) -> u8
     ensures { result ≡ refusal_of (read_frame (addressed own peer f.now) f.now) }
 {
     layout_where(f, is_addressed(f, own, peer)).refusal()
-}
-
-// Whether the messages from the header at an offset on all lie in the frame. A caller that has read those before it
-// knows the rest of the layout.
-pub fn is_whole_from(f: &[u8], start: usize) -> bool
-    ensures { result ≡ whole_from f.now start }
-{
-    let mut at = start;
-    loop {
-        let found = crate::message_at(f, at);
-        match found {
-            Found::PastEnd => {
-                return false;
-            }
-            Found::Whole(_, _, more, next) => {
-                if !more {
-                    return true;
-                }
-                at = next;
-            }
-        }
-    }
 }

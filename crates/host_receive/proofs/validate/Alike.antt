@@ -1,13 +1,13 @@
 -- Entries that a verdict does not tell apart: where nothing was received, what else an entry holds is not looked at.
 -- Assumes nothing.
-use Rattle.std.proofs.Common.{◌≡◌, ℕ, Bool, true, false, eqb, ◌⊎◌, sym, refl, ap, inl, inr, true≢false, arith}
+use Rattle.std.proofs.Common.{◌≡◌, ℕ, Bool, true, false, eqb, ◌⊎◌, sym, refl, ap, inl, inr, arith}
 use borrow.Author.Tests.{eqb-false}
 use Rattle.seq.specs.Ring.{distance, trans_space}
 use Rattle.wire.specs.declared.MessageHeader.{MessageHeader}
 use Rattle.host.specs.declared.Open.{Open}
 use Rattle.host.specs.declared.Verdict.{Verdict}
 use Rattle.host.specs.Terms.{free, agrees, terms_refusal, message_refusal}
-use Rattle.host.specs.Transactions.{fills, refused_verdict, closed_verdict, open_verdict, one_received, verdict_of}
+use Rattle.host.specs.Transactions.{fills, refused_verdict, closed_verdict, open_verdict, verdict_of}
 
 abbrev pub Alike : Open → Open → Type 0
 Alike a b = (a ≡ b) ⊎ ((a.received ≡ 0) × (b.received ≡ 0))
@@ -70,19 +70,3 @@ module _ (lowest closed : ℕ) (h : MessageHeader) (len size : ℕ) where
       go true z true w = rw (z, w)
       go true z false w = let q : false ≡ true = rw (z, w) at e in let k : ◌≡◌ {A = ℕ} 0 1 = cc in absurd (omega arith)
       go false z y w = let q : false ≡ true = rw z at e in let k : ◌≡◌ {A = ℕ} 0 1 = cc in absurd (omega arith)
-
-  -- one that is not refused and does not complete it leaves the entry with one message more
-  pub open_more : (o : Open) → (its o).refusal ≡ 0 → (its o).done ≡ false → (its o).entry ≡ one_received o h
-  unfolding verdict_of refused_verdict closed_verdict open_verdict
-  open_more o ok e = go (eqb r 0) refl (fills o h) refl
-    where
-      d : ℕ
-      d = distance trans_space lowest h.trans.0
-
-      r : ℕ
-      r = message_refusal d closed o h len size
-
-      go : (x : Bool) → eqb r 0 ≡ x → (y : Bool) → fills o h ≡ y → (its o).entry ≡ one_received o h
-      go true z false w = rw (z, w)
-      go true z true w = let q : true ≡ false = rw (z, w) at e in absurd (true≢false q)
-      go false z y w = absurd (eqb-false r 0 z (rw z at ok))

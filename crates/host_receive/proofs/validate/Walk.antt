@@ -3,6 +3,7 @@
 use Rattle.std.proofs.Common.{◌≡◌, ℕ, zero, suc, ◌+◌, ◌*◌, ◌%◌, ◌<◌, ◌≤◌, Bool, true, false, cond, ◌≢◌, List, length, get_or, set, sym, refl, ap, ◌∙◌, arith, le-ltb, lt-ltb, eq-eqb, ne_eqb, le-leb}
 use borrow.Author.Tests.{lt-leb}
 use Rattle.octets.specs.Octets.{field}
+use Rattle.bitmap.specs.Marks.{mark}
 use Rattle.wire.specs.declared.MessageHeader.{MessageHeader}
 use Rattle.wire.specs.Format.{message_header, next_header, frame_most}
 use Rattle.wire.specs.Reading.{follows, data_end, message_at}
@@ -12,7 +13,7 @@ use Rattle.wire_read.proofs.Finding.{IsWhole, is-past}
 use Rattle.host.specs.declared.Open.{Open}
 use Rattle.host.specs.declared.Verdict.{Verdict}
 use Rattle.host.specs.Terms.{free}
-use Rattle.host.specs.Transactions.{one_received, Transactions, verdict_of, verdict, after}
+use Rattle.host.specs.Transactions.{Transactions, verdict_of, verdict, after}
 use Rattle.host.specs.Host.{transactions_of}
 use Rattle.host_words.specs.Words.{pair_of}
 use Rattle.host_receive.specs.Validating.{
@@ -24,21 +25,22 @@ use Rattle.host_receive.specs.Validating.{
   validated_from,
   validated_of,
   current,
+  Marks,
   Notes,
 }
-use Rattle.host_receive.proofs.validate.Alike.{Alike, verdict-alike, done-free, open_more}
+use Rattle.host_receive.proofs.validate.Alike.{Alike, verdict-alike, done-free}
 use Rattle.host_receive.proofs.validate.Overlay.{
   Overlaid,
   overlaid-start,
   overlaid-current,
-  kept-is,
   overlaid-turn,
+  apart-turn,
 }
 
 -- ---- a frame too long to be read
 
 pub validated-long : (f : List ℕ) (t : Transactions) (size : ℕ) → frame_most < length f
-    → refused_at 2 0 0 ≡ validated_of f t size
+    → refused_at 2 0 ≡ validated_of f t size
 unfolding validated_of
 validated-long f t size h = rw (lt-ltb frame_most (length f) h)
 
@@ -54,14 +56,14 @@ module _ (f : List ℕ) (size at : ℕ) (g : Progress) where
   its-verdict = verdict g.transactions size (message_at f at)
 
   pub validated-past : (turns : ℕ) → length f < data_end f at
-      → validated_from turns f size at g ≡ refused_at 5 g.messages at
+      → validated_from turns f size at g ≡ refused_at 5 g.messages
   unfolding validated_from
   validated-past zero h = refl
   validated-past (suc n) h = rw (lt-leb (data_end f at) (length f) h)
 
   module _ (n : ℕ) (inside : data_end f at ≤ length f) where
     pub validated-stops : its-verdict.refusal ≢ 0
-        → validated_from (suc n) f size at g ≡ refused_at its-verdict.refusal g.messages at
+        → validated_from (suc n) f size at g ≡ refused_at its-verdict.refusal g.messages
     unfolding validated_from
     validated-stops ne = rw (le-leb (data_end f at) (length f) inside, ne_eqb its-verdict.refusal 0 ne)
 
@@ -95,7 +97,7 @@ module _ {f : List ℕ} {at : ℕ} {h : MessageHeader} {len : ℕ} {more : Bool}
   verdict-is t size = rw (head-is, ← x.bytes-are)
 
   -- a turn is left for it
-  pub turn-left : (turns : ℕ) → length f < at + turns → (n : ℕ) × (turns ≡ suc n)
+  turn-left : (turns : ℕ) → length f < at + turns → (n : ℕ) × (turns ≡ suc n)
   turn-left zero l = absurd (omega (arith, x.inside-frame, l))
   turn-left (suc n) l = (n, refl)
 
@@ -139,7 +141,7 @@ standing lowest closed table messages bytes completed = record {
 
 pub record Walking (w kept f : List ℕ) (size lowest closed changed messages bytes completed at : ℕ) : Type 0 where
   pub table : List Open
-  pub overlaid : Overlaid w kept f changed table
+  pub overlaid : Overlaid w kept changed table
   pub turns : ℕ
   pub enough : length f < at + turns
   pub is : validated_of f (transactions_of (pair_of w)) size
@@ -150,7 +152,7 @@ pub walking_start : (w kept f : List ℕ) (size : ℕ) → length f ≤ frame_mo
 walking_start w kept f size h =
     record {
       table = (pair_of w).table;
-      overlaid = overlaid-start w kept f;
+      overlaid = overlaid-start w kept;
       turns = length f;
       enough = omega arith;
       is = validated-short f (transactions_of (pair_of w)) size h;
@@ -161,13 +163,13 @@ module _ {w kept f : List ℕ} {size lowest closed changed messages bytes comple
   abbrev now-at : Progress
   now-at = standing lowest closed g.table messages bytes completed
 
-  pub walking-past : found_at f at ≡ PastEnd → refused_at 5 messages at ≡ validated_of f (transactions_of (pair_of w)) size
+  pub walking-past : found_at f at ≡ PastEnd → refused_at 5 messages ≡ validated_of f (transactions_of (pair_of w)) size
   walking-past e = sym (g.is ∙ validated-past f size at now-at g.turns (is-past f at e))
 
   -- a message was found, and judged as code does it
   module _ {h : MessageHeader} {len : ℕ} {more : Bool} {next : ℕ} {o : Open} {v : Verdict}
-      (x : IsWhole f at h len more next) (o_is : o ≡ current w kept f changed (h.trans.0 % 32))
-      (v-is : v ≡ verdict_of lowest closed o h len size) where
+      (x : IsWhole f at h len more next) (there : mark changed (h.trans.0 % 32) ≡ true → length kept ≡ 67)
+      (o_is : o ≡ current w kept changed (h.trans.0 % 32)) (v-is : v ≡ verdict_of lowest closed o h len size) where
     abbrev s : ℕ
     s = h.trans.0 % 32
 
@@ -181,7 +183,7 @@ module _ {w kept f : List ℕ} {size lowest closed changed messages bytes comple
     one-turn = g.is ∙ ap (λ (k : ℕ). validated_from k f size at now-at) left.1
 
     alike : Alike defined o
-    alike = rw o_is (overlaid-current g.overlaid s (omega arith))
+    alike = rw o_is (overlaid-current g.overlaid s (omega arith) there)
 
     same : ((verdict_of lowest closed defined h len size).refusal ≡ (verdict_of lowest closed o h len size).refusal)
         × ((verdict_of lowest closed defined h len size).refusal ≡ 0
@@ -196,9 +198,9 @@ module _ {w kept f : List ℕ} {size lowest closed changed messages bytes comple
         ap (λ (v : Verdict). v.refusal) v-is ∙ sym same.0 ∙ ap (λ (v : Verdict). v.refusal) its-is
 
     pub walking-stops : v.refusal ≢ 0
-        → refused_at v.refusal messages at ≡ validated_of f (transactions_of (pair_of w)) size
+        → refused_at v.refusal messages ≡ validated_of f (transactions_of (pair_of w)) size
     walking-stops ne =
-        ap (λ (n : ℕ). refused_at n messages at) refusal_is
+        ap (λ (n : ℕ). refused_at n messages) refusal_is
         ∙ sym (one-turn ∙ validated-stops f size at now-at left.0 x.inside-frame (λ z. ne (refusal_is ∙ z)))
 
     -- it is not refused: the sums and the state after it
@@ -223,28 +225,13 @@ module _ {w kept f : List ℕ} {size lowest closed changed messages bytes comple
           ∙ sym (one-turn
           ∙ validated-last f size at now-at left.0 x.inside-frame (sym refusal_is ∙ ok) (sym x.more-is ∙ z))
 
-      closes : v.done ≡ true → v.entry ≡ free
-      closes d =
-          ap (λ (v : Verdict). v.entry) v-is
-          ∙ done-free lowest closed h len size o (sym (ap (λ (v : Verdict). v.done) v-is) ∙ d)
-
-      opens : v.done ≡ false → v.entry ≡ one_received o (message_header (message_at f at))
-      opens d =
-          ap (λ (v : Verdict). v.entry) v-is
-          ∙ open_more lowest closed h len size o (sym (ap (λ (v : Verdict). v.refusal) v-is) ∙ ok)
-          (sym (ap (λ (v : Verdict). v.done) v-is) ∙ d)
-          ∙ ap (one_received o) (head-is x)
-
-      pub walking_on : (kept' : List ℕ) (r : ℕ) → more ≡ true → length kept ≡ 32 → at < 65536
-          → Notes kept changed s at o v.done kept' r
+      walked : (kept' : List ℕ) (r : ℕ) → more ≡ true → Overlaid w kept' r (set g.table s v.entry)
           → Walking w kept' f size v.lowest.0 v.closed r (messages + 1) (bytes + len)
           (completed + cond v.done 1 0) next
-      walking_on kept' r z room low n =
+      walked kept' r z overlaid =
           record {
             table = set g.table s v.entry;
-            overlaid =
-                overlaid-turn g.overlaid s (omega arith) o v.entry o_is at v.done kept' r room closes
-                (kept-is f at o v.done v.entry low x.inside-frame closes opens) n;
+            overlaid = overlaid;
             turns = left.0;
             enough = omega (arith, g.enough, x.next-beyond, left.1);
             is =
@@ -253,3 +240,20 @@ module _ {w kept f : List ℕ} {size lowest closed changed messages bytes comple
                 (sym x.more-is ∙ z)
                 ∙ rw (← on-is, ← x.next-is);
           }
+
+      -- its entry is kept
+      pub walking_on : (kept' : List ℕ) (r : ℕ) → more ≡ true → length kept' ≡ length kept
+          → Notes kept changed s v kept' r
+          → Walking w kept' f size v.lowest.0 v.closed r (messages + 1) (bytes + len)
+          (completed + cond v.done 1 0) next
+      walking_on kept' r z long n =
+          walked kept' r z (overlaid-turn g.overlaid s (omega arith) o v o_is kept' r long n)
+
+      -- nothing is kept
+      pub walking-apart : (r : ℕ) → more ≡ true → length kept ≢ 67 → Marks changed s o v.done r
+          → Walking w kept f size v.lowest.0 v.closed r (messages + 1) (bytes + len)
+          (completed + cond v.done 1 0) next
+      walking-apart r z none m =
+          walked kept r z (apart-turn g.overlaid s (omega arith) o v o_is r none
+          (λ d. ap (λ (v : Verdict). v.entry) v-is
+          ∙ done-free lowest closed h len size o (sym (ap (λ (v : Verdict). v.done) v-is) ∙ d)) m)

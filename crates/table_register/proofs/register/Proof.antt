@@ -41,7 +41,7 @@ put-place-requires : tie.Need-put-place-requires
 put-place-requires c κs =
     let e = c.before.before.before.before.before in
     let room = room-left _ _ _ _ _ _ e.before.register-refusal.ensures e.if2.false in
-    (omega (arith, room, c.before.place-of.ensures), e.before.before.before.if1.false)
+    (omega (arith, room, c.before.place_of.ensures), e.before.before.before.if1.false)
 
 same-length-2 : tie.Need-same-length-2
 same-length-2 c = search rules
@@ -53,7 +53,7 @@ returns-3 c =
     let e = p.before.before.before.before in (
       (
         λ l. register-done _ _ _ _ _ _ e.before.register-refusal.ensures e.if2.false _ _ _
-            p.before.before.own.ensures p.place-of.ensures back.put-place.ensures,
+            p.before.before.own.ensures p.place_of.ensures back.put-place.ensures,
         λ n. absurd (n e.before.before.before.if1.false),
       ),
       λ q. absurd (q refl),

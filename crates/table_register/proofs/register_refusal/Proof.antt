@@ -60,7 +60,7 @@ returns-3 c =
     let e = c.before.before.before in
     let a = (start e).args in
     there a.words.now a.source a.first a.size a.memory (own-some e) c.before.before.if2.false _
-    c.before.place-of.ensures c.if3.true
+    c.before.place_of.ensures c.if3.true
 
 module _ (e : tie.Else3) where
   abbrev with-own : tie.Else1
@@ -70,7 +70,7 @@ module _ (e : tie.Else3) where
   sourced = e.before.before
 
   new : 16 ≤ place_of (table_of (w with-own)).entries (start with-own).args.source
-  new = omega (arith, e.if3.left, e.before.place-of.ensures)
+  new = omega (arith, e.if3.left, e.before.place_of.ensures)
 
 returns-4 : tie.Need-returns-4
 returns-4 c =

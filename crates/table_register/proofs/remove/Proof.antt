@@ -29,7 +29,7 @@ returns-3 c =
     let p = c.before in
     let a = p.before.before.before.before.before.args in (
       (
-        λ l. remove-unknown a.words.now a.source _ p.place-of.ensures c.if3.true,
+        λ l. remove-unknown a.words.now a.source _ p.place_of.ensures c.if3.true,
         λ n. absurd (n p.before.before.before.if1.false),
       ),
       λ q. refl,
@@ -48,7 +48,7 @@ returns-4 c =
     let p = g.before in
     let a = p.before.before.before.before.before.args in (
       (
-        λ l. remove-done a.words.now a.source _ _ p.before.before.if2.false p.place-of.ensures
+        λ l. remove-done a.words.now a.source _ _ p.before.before.if2.false p.place_of.ensures
             g.if3.false back.put-place.ensures,
         λ n. absurd (n p.before.before.before.if1.false),
       ),

@@ -5,7 +5,7 @@ use Rattle.host_receive.proofs.validate.counted.Statement.{statement}
 use Rattle.host_receive.proofs.validate.counted.Tie as tie
 use Rattle.host_receive.proofs.validate.counted.Reads as reads
 use Rattle.host_receive.proofs.validate.counted.Lts as lts
-use Rattle.host_receive.proofs.verdict.one_if.Reads as one-if-reads
+use Rattle.host_receive.proofs.validate.one_if.Reads as one-if-reads
 
 one-if-requires : tie.Need-one-if-requires
 one-if-requires c κs = search rules

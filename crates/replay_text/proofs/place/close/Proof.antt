@@ -32,7 +32,7 @@ returns-2 : tie.Need-returns-2
 returns-2 c =
     let totals = c.before.before.before.before in
     let opened = totals.before.before in
-    rw (c.place-of.ensures, c.before.line-in.ensures, totals.totals-in.ensures)
+    rw (c.place_of.ensures, c.before.line-in.ensures, totals.totals-in.ensures)
     (closing-open opened.before.before.args.place.now opened.if1.false)
 
 pub close_spec : {M : Type 1} → statement M

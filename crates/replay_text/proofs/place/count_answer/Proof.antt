@@ -38,7 +38,7 @@ unfolding counted
 returns c =
     let lines = c.before.before.before in
     let totals = lines.before.before.before in
-    c.place-of.ensures
+    c.place_of.ensures
     ∙ rw (
       c.before.start.ensures,
       lines.wrapping-add-u64.ensures,

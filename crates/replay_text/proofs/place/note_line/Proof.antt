@@ -23,7 +23,7 @@ place-of-requires c κs = search rules
 
 returns : tie.Need-returns
 unfolding noted
-returns c = c.place-of.ensures ∙ rw c.before.before.before.totals-in.ensures
+returns c = c.place_of.ensures ∙ rw c.before.before.before.totals-in.ensures
 
 pub note-line-spec : {M : Type 1} → statement M
 note-line-spec =

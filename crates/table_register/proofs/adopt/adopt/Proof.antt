@@ -90,7 +90,7 @@ put-entry-requires c κs =
     let g = c.before.before.before in
     let e = g.before in
     let room = room-left _ _ _ _ _ _ e.register-refusal.ensures g.if4.false in
-    (omega (arith, room, c.before.place-of.ensures), words_long e, pair-long e)
+    (omega (arith, room, c.before.place_of.ensures), words_long e, pair-long e)
 
 same-length-3 : tie.Need-same-length-3
 same-length-3 c = search rules
@@ -104,7 +104,7 @@ returns-5 c =
     let a = (start e).args in
     adopts _ _ _ _ _ _ _
     (λ x y. adopt-done a.words.now a.pair.now a.first a.size a.memory (ours e) _
-    e.before.before.peer.ensures _ e.register-refusal.ensures g.if4.false _ _ p.place-of.ensures
+    e.before.before.peer.ensures _ e.register-refusal.ensures g.if4.false _ _ p.place_of.ensures
     back.put-entry.ensures)
     (both_right a.words.now a.pair.now (words_long e) (pair-long e)) (λ n. absurd (n refl))
 

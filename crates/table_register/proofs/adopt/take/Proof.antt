@@ -35,7 +35,7 @@ returns-4 c =
     let e = c.before in
     let a = e.before.before.before.before.before.before.args in
     takes_out _ _ _ _ _ (λ p q. (
-      take-unknown a.words.now a.source e.before.if3.false _ e.place-of.ensures c.if4.true,
+      take-unknown a.words.now a.source e.before.if3.false _ e.place_of.ensures c.if4.true,
       λ z. absurd (omega arith),
     ))
     (both_right a.words.now a.pair.now e.before.before.before.if1.false e.before.before.if2.false)
@@ -74,8 +74,8 @@ returns-5 c =
     let g = back.before.before.before in
     let e = g.before in
     let a = e.before.before.before.before.before.before.args in
-    let k = e.place-of.result in
-    let t = taken a.words.now a.source e.before.if3.false k e.place-of.ensures _
+    let k = e.place_of.result in
+    let t = taken a.words.now a.source e.before.if3.false k e.place_of.ensures _
     (pair_at k + 67 - pair_at k) g.if4.false (omega arith) back.copy-words.ensures in
     takes_out _ _ _ _ _ (λ p q. (t.0, λ z. t.1))
     (both_right a.words.now a.pair.now e.before.before.before.if1.false e.before.before.if2.false)
