@@ -1,6 +1,8 @@
 // The plain host for C, behind the functions of include/logwhisker.h: its state lies in 228 words that the caller
 // lends, one for each mark and each number. Assumes of a caller that pointers and lengths are right; any words are a
 // state. It promises the words, the answer and the memory by the plain host's own definitions (specs/Words.antt).
+#![tactic(auto)]
+
 ghost use Rattle.std.specs.Prelude.{◌≡◌, ◌<◌, get_or};
 ghost use Rattle.host.specs.Host.{answer_words};
 ghost use Rattle.host_answer.specs.Due.{due_number, written_where_due};

@@ -1,6 +1,8 @@
 // The card's end of a pair as a value: its sealed frames, its transactions, and what its steps answer. Definitions
 // only: specs/Card.antt says what opening and the six steps make of a card, and specs/Reachable.antt what holds of
 // every card that they hand back. The crates card_* do the steps on a card kept in lent words.
+#![tactic(auto)]
+
 ghost use Rattle.std.specs.Prelude.{◌≡◌, Bool, true, false, ◌*◌, ◌%◌, ◌<◌};
 ghost use Rattle.card.specs.Card.{fits};
 
@@ -8,7 +10,7 @@ use seq::{FrameNo, TransNo};
 
 // The sealed frames. Bit i of acked stands for the frame base + i and is set where that is acknowledged. The frame n is
 // in slot n modulo 64 and has the length that sizes gives there.
-#[derive(Drop)]
+#[derive(Clone, Copy)]
 pub struct SendWindow {
     pub acked: u64,
     pub next: FrameNo,
@@ -18,7 +20,7 @@ pub struct SendWindow {
 
 // A transaction as the card sends it: its terms, how many of its messages are added, and the number of the frame that
 // the latest of them went into.
-#[derive(Drop)]
+#[derive(Clone, Copy)]
 pub struct Sending {
     pub address: u32,
     pub value: u32,
@@ -29,7 +31,7 @@ pub struct Sending {
 
 // The transactions. next is the number that the next opening gives, lowest the lowest unfinished one. Bit i of finished
 // stands for the transaction lowest + i.
-#[derive(Drop)]
+#[derive(Clone, Copy)]
 pub struct Sendings {
     pub next: TransNo,
     pub lowest: TransNo,
@@ -38,7 +40,7 @@ pub struct Sendings {
 }
 
 // used is the length of the frame being built, 0 where there is none, and last the offset of its last message header.
-#[derive(Drop)]
+#[derive(Clone, Copy)]
 pub struct Card {
     pub own: u16,
     pub peer: u16,
@@ -50,20 +52,20 @@ pub struct Card {
 }
 
 // What a step makes of a card. Refusal 0 is none.
-#[derive(Drop)]
+#[derive(Clone, Copy)]
 pub struct Stepped {
     pub card: Card,
     pub refusal: u8,
 }
 
-#[derive(Drop)]
+#[derive(Clone, Copy)]
 pub struct TransOpened {
     pub card: Card,
     pub refusal: u8,
     pub trans: TransNo,
 }
 
-#[derive(Drop)]
+#[derive(Clone, Copy)]
 pub struct Sealed {
     pub card: Card,
     pub refusal: u8,

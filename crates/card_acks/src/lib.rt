@@ -1,6 +1,8 @@
 // Reading acknowledgements: until when the card sends its frames again. The card is in words that are lent and changed
 // in place. Assumes nothing of words and frame. It promises what card/specs/Card.antt says, read_acks, of the card that
 // the words hold, and that a refused reading changes no word.
+#![tactic(auto)]
+
 pub mod cover;
 pub mod finish;
 

@@ -2,6 +2,8 @@
 // is lent, and written to inside the slot of that frame only. Assumes nothing of words, slots and data. It promises
 // what card/specs/Card.antt says of the card that the words hold, every byte of the slots, and that a refused adding
 // changes no word.
+#![tactic(auto)]
+
 pub mod admit;
 pub mod number;
 pub mod opening;

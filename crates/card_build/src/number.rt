@@ -11,14 +11,14 @@ use card_words::update;
 use seq::{FrameNo, TransNo};
 
 // The number of a transaction just opened; 0 where that is refused. Refusal 0 is none.
-#[derive(Drop)]
+#[derive(Clone, Copy)]
 pub struct OpenedTransaction {
     pub refusal: u8,
     pub trans: TransNo,
 }
 
 // The number of a frame just sealed; 0 where that is refused.
-#[derive(Drop)]
+#[derive(Clone, Copy)]
 pub struct SealedFrame {
     pub refusal: u8,
     pub number: FrameNo,

@@ -16,7 +16,7 @@ use seq::FrameNo;
 
 // A choice: its refusal, 0 for none, and a part of the lent acknowledgement, where lent says so, else of the slots; no
 // part where it is refused.
-#[derive(Drop)]
+#[derive(Clone, Copy)]
 pub struct Choice {
     pub refusal: u8,
     pub lent: bool,

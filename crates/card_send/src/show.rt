@@ -11,14 +11,14 @@ use bitmap::word64;
 use seq::FrameNo;
 
 // A part of a lent buffer.
-#[derive(Drop)]
+#[derive(Clone, Copy)]
 pub struct Part {
     pub offset: usize,
     pub len: usize,
 }
 
 // A showing: its refusal, 0 for none, and where the frame lies in the slots; no part where it is refused.
-#[derive(Drop)]
+#[derive(Clone, Copy)]
 pub struct Showing {
     pub refusal: u8,
     pub part: Part,

@@ -1,5 +1,7 @@
 // A card in 85 words that a caller lends, and reading its parts. Assumes nothing of the words: any are a card, which
 // specs/Words.antt decodes. It promises by that decoding what is read.
+#![tactic(auto)]
+
 pub mod update;
 
 ghost use Rattle.std.specs.Prelude.{◌≡◌};
@@ -18,7 +20,7 @@ pub const OTHER_LENGTH: u8 = 255;
 
 // What a card holds beside the lengths of its frames and its transactions. upcoming is the number that the next opening
 // of a transaction gives.
-#[derive(Drop)]
+#[derive(Clone, Copy)]
 pub struct Head {
     pub own: u16,
     pub peer: u16,

@@ -10,7 +10,7 @@ pub const COUNTED: usize = 9001;
 
 // The line being read: the bytes complete so far, of which no more than COUNTED are counted; the digit that waits for
 // its second half, if odd says that there is one; and whether a character was no digit.
-#[derive(Drop)]
+#[derive(Clone, Copy)]
 pub struct Line {
     pub len: usize,
     pub half: u8,
@@ -19,7 +19,7 @@ pub struct Line {
 }
 
 // What a piece of the input gave: the line so far, the index behind what was taken, and whether the line has ended.
-#[derive(Drop)]
+#[derive(Clone, Copy)]
 pub struct Taken {
     pub line: Line,
     pub at: usize,

@@ -1,10 +1,12 @@
 // The charging host's end of a pair by value: what it knows, and what it answers. Types only. What opening, receiving
 // and acknowledging come to is defined in specs/: Terms.antt and Transactions.antt for one message, Host.antt for
 // frames. What specs/Reachable.antt says is kept by all of it.
+#![tactic(auto)]
+
 use seq::{FrameNo, TransNo};
 
 // An open transaction: what its first message said of it, and how many were received.
-#[derive(Drop)]
+#[derive(Clone, Copy)]
 pub struct Open {
     pub address: u32,
     pub value: u32,
@@ -22,7 +24,7 @@ pub const FREE: Open = Open {
 
 // The verdict on a message: its refusal, or 0; whether it completes its transaction; and the window and the
 // transaction's entry after it.
-#[derive(Drop)]
+#[derive(Clone, Copy)]
 pub struct Verdict {
     pub refusal: u8,
     pub done: bool,
@@ -34,7 +36,7 @@ pub struct Verdict {
 // What the host knows of its peer's frames and transactions. Bit i of marks stands for the frame next + i and is set
 // where that was accepted; bit i of closed for the transaction lowest + i. An open transaction is in the entry of the
 // table that its number modulo 32 gives; an entry with none is all zeros.
-#[derive(Drop)]
+#[derive(Clone, Copy)]
 pub struct Pair {
     pub own: u16,
     pub peer: u16,
@@ -46,14 +48,14 @@ pub struct Pair {
 }
 
 // A refusal's number, and the index of the message that it is about, or 0.
-#[derive(Drop)]
+#[derive(Clone, Copy)]
 pub struct Refusal {
     pub number: u8,
     pub place: u32,
 }
 
 // What an accepted frame brought.
-#[derive(Drop)]
+#[derive(Clone, Copy)]
 pub struct Sums {
     pub messages: u32,
     pub bytes: u32,
@@ -62,7 +64,7 @@ pub struct Sums {
 
 // "Again" (a term of the rules) is a frame that was accepted before or lies behind. Accepted and again end with the
 // length of the run of frame numbers that they acknowledge.
-#[derive(Drop)]
+#[derive(Clone, Copy)]
 pub enum Answer {
     Accepted(FrameNo, Sums, u8),
     Again(FrameNo, u8),
@@ -70,27 +72,27 @@ pub enum Answer {
     Refused(Refusal),
 }
 
-#[derive(Drop)]
+#[derive(Clone, Copy)]
 pub struct Opened {
     pub pair: Pair,
     pub refusal: Refusal,
 }
 
-#[derive(Drop)]
+#[derive(Clone, Copy)]
 pub struct Stepped {
     pub pair: Pair,
     pub answer: Answer,
 }
 
 // Frame numbers: count of them from start on.
-#[derive(Drop)]
+#[derive(Clone, Copy)]
 pub struct Range {
     pub start: FrameNo,
     pub count: u8,
 }
 
 // Ten bytes to be sent where due.
-#[derive(Drop)]
+#[derive(Clone, Copy)]
 pub struct Acknowledgement {
     pub due: bool,
     pub frame: [u8; 10],

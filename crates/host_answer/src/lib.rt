@@ -1,6 +1,8 @@
 // Answers as words that C reads, and back; the acknowledgement that an answer calls for, with the pair in lent words,
 // and its bytes for C. Assumes nothing: any words have an answer. It promises host/specs/Host.antt, answer_words,
 // answer_of and acknowledgement_of, and specs/Due.antt.
+#![tactic(auto)]
+
 ghost use Rattle.std.specs.Prelude.{◌≡◌, [], ◌∷◌, get_or};
 ghost use Rattle.host.specs.Host.{answer_words, answer_of, acknowledgement_of};
 ghost use Rattle.host_words.specs.Words.{pair_of};
@@ -11,7 +13,7 @@ use host_words::pair;
 use seq::FrameNo;
 
 // An answer's eight words.
-#[derive(Drop)]
+#[derive(Clone, Copy)]
 struct Line {
     kind: u64,
     number: u64,

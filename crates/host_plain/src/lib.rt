@@ -1,6 +1,8 @@
 // The plain host: a second charging host, to be read in one sitting. Its marks are arrays of yes and no, moved along
 // one place at a time. Assumes nothing of the pair, which may be one that no run reaches. It promises answer, pair and
 // every byte of memory as specs/Plain.antt says; the crate host_equal shows that the first host's are the same.
+#![tactic(auto)]
+
 ghost use Rattle.std.specs.Prelude.{◌≡◌, ◌<◌, ◌≤◌, length};
 ghost use Rattle.wire.specs.Format.{carrying};
 ghost use Rattle.host_plain.specs.Plain as plain;
@@ -13,7 +15,7 @@ use wire_read::{Found, layout};
 use wire_write::headers;
 
 // The next frame, and whether the frame next + i was accepted.
-#[derive(Drop)]
+#[derive(Clone, Copy)]
 pub struct PlainFrames {
     pub next: FrameNo,
     pub accepted: [bool; 64],
@@ -21,7 +23,7 @@ pub struct PlainFrames {
 
 // The lowest transaction that is not complete; whether the transaction lowest + i is closed; and the open ones, each in
 // the place that its number modulo 32 gives. A place with none is all zeros.
-#[derive(Drop)]
+#[derive(Clone, Copy)]
 pub struct PlainTransactions {
     pub lowest: TransNo,
     pub closed: [bool; 32],
@@ -29,7 +31,7 @@ pub struct PlainTransactions {
 }
 
 // What the host knows: both IDs, and its peer's frames and transactions.
-#[derive(Drop)]
+#[derive(Clone, Copy)]
 pub struct PlainPair {
     pub own: u16,
     pub peer: u16,
@@ -37,13 +39,13 @@ pub struct PlainPair {
     pub transactions: PlainTransactions,
 }
 
-#[derive(Drop)]
+#[derive(Clone, Copy)]
 pub struct PlainOpened {
     pub pair: PlainPair,
     pub refusal: Refusal,
 }
 
-#[derive(Drop)]
+#[derive(Clone, Copy)]
 pub struct PlainStepped {
     pub pair: PlainPair,
     pub answer: Answer,
@@ -279,7 +281,7 @@ fn count(s: Sums, len: u16, done: bool) -> Sums
 
 // What going through a frame's messages comes to: the refusal of the message behind those counted, 0 where there is
 // none, and the transactions after those counted.
-#[derive(Drop)]
+#[derive(Clone, Copy)]
 struct Outcome {
     pub refusal: u8,
     pub sums: Sums,

@@ -1,6 +1,8 @@
 // Receiving a frame in place: the pair lies in 67 words that the caller lends, and the frame and the memory are lent
 // too. Nothing is written before the last message is validated. Assumes nothing. It promises pair, answer and every
 // byte of memory as host/specs/Host.antt, receive_of, says of the pair that the words hold (specs/Receiving.antt).
+#![tactic(auto)]
+
 pub mod apply;
 pub mod by_value;
 pub mod message;

@@ -15,7 +15,7 @@ use wire_read::Found;
 
 // What is found of a frame: a refusal, and then messages is the index of the message that it is about and all else is
 // 0; or none, and then the sums, and the transactions' window as it is after the frame.
-#[derive(Drop)]
+#[derive(Clone, Copy)]
 pub struct Validated {
     pub refusal: u8,
     pub messages: u32,
@@ -43,7 +43,7 @@ fn refused_at(refusal: u8, messages: u32) -> Validated
 }
 
 // How many messages there were, their data bytes, and how many of them complete their transaction.
-#[derive(Drop)]
+#[derive(Clone, Copy)]
 struct Counts {
     messages: u32,
     bytes: u32,

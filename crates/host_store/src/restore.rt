@@ -27,7 +27,7 @@ use host_words::{Head, opening, pair};
 use seq::{FrameNo, TransNo};
 
 // An open transaction's line: whether it is fine, its number and its entry of the table; zeros where it is not.
-#[derive(Drop)]
+#[derive(Clone, Copy)]
 pub struct Line {
     pub fine: bool,
     pub number: TransNo,
@@ -36,7 +36,7 @@ pub struct Line {
 
 // The lines of all open transactions: whether they are fine, and the table that they make; none open where they are
 // not.
-#[derive(Drop)]
+#[derive(Clone, Copy)]
 pub struct Lines {
     pub fine: bool,
     pub table: [Open; 32],

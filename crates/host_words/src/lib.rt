@@ -1,5 +1,7 @@
 // The charging host's pair in 67 words that a caller lends, read where it lies. Assumes nothing of the words or of
 // their number: a word that is not there is 0. It promises the pair that the words hold (specs/Words.antt).
+#![tactic(auto)]
+
 pub mod describe;
 pub mod opening;
 pub mod pack;
@@ -19,7 +21,7 @@ pub const WORDS: usize = 67;
 pub const OTHER_LENGTH: u8 = 255;
 
 // What a pair has before the table.
-#[derive(Drop)]
+#[derive(Clone, Copy)]
 pub struct Head {
     pub own: u16,
     pub peer: u16,

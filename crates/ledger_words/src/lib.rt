@@ -2,6 +2,8 @@
 // the sum. Assumes nothing: any words hold a ledger, any bytes get an answer, and words of another number stay as they
 // are.
 // It promises what the definitions of the crate ledger say of the ledger that the words hold (specs/LedgerCalls.antt).
+#![tactic(auto)]
+
 ghost use Rattle.std.specs.Prelude.{◌≡◌, ◌+◌, ◌*◌, ◌%◌, ◌<◌, ◌≤◌, length, if◌then◌else◌, nat_le};
 ghost use Rattle.seq.specs.Ring.{distance};
 ghost use Rattle.octets.specs.Octets.{field};
@@ -31,7 +33,7 @@ const HALF: u64 = 9223372036854775808;
 const READINGS_MOST: usize = 2147483648;
 
 // What is charged to a subscriber, and whether it was ever read.
-#[derive(Drop)]
+#[derive(Clone, Copy)]
 pub struct SubscriberTotal {
     pub read: bool,
     pub bytes: u64,

@@ -4,6 +4,8 @@
 // nothing: any words are a state, and any bytes get an answer. It promises what specs/Face.antt says, which is what the
 // theorems of the crates delivery and delivery_restarts are about; what it passes on promises by the definitions of its
 // own crate.
+#![tactic(auto)]
+
 pub mod billing;
 pub mod cards;
 

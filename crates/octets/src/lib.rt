@@ -1,5 +1,7 @@
 // Bytes that a caller lends: writing into a memory, all of it where it lies inside, else nothing; the first bytes of a
 // slice; numbers as bytes. Assumes nothing. It promises the whole memory as it is then (specs/Octets.antt).
+#![tactic(auto)]
+
 ghost use Rattle.std.specs.Prelude.{◌≡◌, ◌≤◌, length, set, take};
 ghost use Rattle.octets.specs.Octets.{little, inside, written};
 
@@ -36,7 +38,7 @@ fn copy(dst: &mut [u8], src: &[u8])
     } else if src.len() <= COPIED_MOST {
         copy_short(dst, src);
     } else {
-        bytes::copy(src, dst);
+        dst.copy_from_slice(src);
     }
 }
 
@@ -47,8 +49,9 @@ fn copy_short(dst: &mut [u8], src: &[u8])
     ensures { dst.new ≡ src.now }
 {
     let mut local = [0u8; 9000];
-    let n = bytes::copy(src, &mut local);
-    bytes::copy(&local[..n], dst);
+    let n = src.len();
+    local[..n].copy_from_slice(src);
+    dst.copy_from_slice(&local[..n]);
 }
 
 // Stores a byte, and nothing past the end.

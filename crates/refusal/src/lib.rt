@@ -1,5 +1,7 @@
 // The numbers of refusals, and the class of a number. Assumes nothing: any number has a class. It promises that of
 // specs/Class.antt.
+#![tactic(auto)]
+
 ghost use Rattle.std.specs.Prelude.{◌≡◌};
 ghost use Rattle.refusal.specs.Class.{class_of, class_number};
 
@@ -84,7 +86,7 @@ pub const PAST_64_BITS: u8 = 42;
 pub const REPLAY_CLOSED: u8 = 17;
 
 // Other is the class of all other numbers: 15, 17, 19, 28 to 31 and 40 to 42 among them.
-#[derive(Drop)]
+#[derive(Clone, Copy)]
 pub enum Class {
     Wire,
     Message,

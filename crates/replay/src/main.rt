@@ -3,6 +3,8 @@
 // by piece, and writes the text of what that answers; what a read brought, and writing, are the crate replay_output's.
 // Where reading or writing fails, that is said on standard error and no totals are written: a program has no exit
 // status, so it is the last line that tells a whole replay.
+#![tactic(auto)]
+
 use libc::STDIN_FILENO;
 use replay_output::Room;
 use replay_text::place;

@@ -2,6 +2,8 @@
 // caller lends. Assumes nothing: any words are a state, and any characters get an answer. It promises the calls of
 // replay_text/specs/Feeding.antt on the state that is lent (specs/State.antt), of which
 // replay_text/proofs/Fragments.antt shows that any way to cut a text gives the answers of the whole text.
+#![tactic(auto)]
+
 ghost use Rattle.std.specs.Prelude.{◌≡◌, [], ◌∷◌, replicate};
 ghost use Rattle.host_words.specs.Words.{pair_of};
 ghost use Rattle.replay_text.specs.Report.{answered_line};

@@ -1,6 +1,8 @@
 // Input and output of the programs that replay: what the answer of a read means, the buffer in which answers wait to
 // be written, and writing it. Assumes that write does what its page says. It promises as specs/Output.antt says;
 // whether bytes that are there can be written is the operating system's to say, and no promise says it.
+#![tactic(auto)]
+
 ghost use Rattle.std.specs.Prelude.{◌≡◌, [], ◌∷◌, length};
 ghost use Rattle.replay_text.specs.AnswerLine.{line_end, with_line};
 ghost use Rattle.replay_output.specs.Output.{got_of, stopped, room_after, out_after, Writes, Makes};
@@ -10,14 +12,14 @@ use replay_text::line::Totals;
 use replay_text::{Reply, answer, line};
 
 // How much of the output buffer is used, and whether reading or writing failed, or an answer was lost.
-#[derive(Drop)]
+#[derive(Clone, Copy)]
 pub struct Room {
     pub used: usize,
     pub failed: bool,
 }
 
 // How many bytes were read, 0 at the input's end, and whether reading failed.
-#[derive(Drop)]
+#[derive(Clone, Copy)]
 pub struct Got {
     pub count: usize,
     pub failed: bool,

@@ -3,13 +3,15 @@
 // and writing, are the crate replay_output's, as the first program's are.
 // Where reading or writing fails, that is said on standard error and no totals are written: a program has no exit
 // status, so it is the last line that tells a whole replay.
+#![tactic(auto)]
+
 use host_plain::PlainPair;
 use libc::STDIN_FILENO;
 use replay_output::Room;
 use replay_text::place;
 
 // What a piece, or the whole input, leaves: the pair, and how far the output buffer is used.
-#[derive(Drop)]
+#[derive(Clone, Copy)]
 struct Reached {
     pub pair: PlainPair,
     pub room: Room,

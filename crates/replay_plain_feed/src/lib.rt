@@ -2,6 +2,8 @@
 // closing, in place over what a caller lends, but for the pair, which goes in and out by value. Assumes nothing: any
 // words and any pair are a state. It promises the calls that replay_feed promises (replay_text/specs/Feeding.antt) on
 // the state that is lent (specs/State.antt), so the two can't be told apart.
+#![tactic(auto)]
+
 ghost use Rattle.std.specs.Prelude.{◌≡◌, [], ◌∷◌, replicate};
 ghost use Rattle.host_equal.specs.Described.{pair_of_plain};
 ghost use Rattle.replay_text.specs.Report.{answered_line};
@@ -16,14 +18,14 @@ use replay_text::place::{Closed, Fed};
 use replay_text::{Reply, line, place};
 
 // What feeding answers, and the pair then.
-#[derive(Drop)]
+#[derive(Clone, Copy)]
 pub struct PlainFed {
     pub pair: PlainPair,
     pub fed: Fed,
 }
 
 // What closing answers, and the pair then.
-#[derive(Drop)]
+#[derive(Clone, Copy)]
 pub struct PlainClosed {
     pub pair: PlainPair,
     pub closed: Closed,

@@ -9,7 +9,7 @@ use hexadecimal::line::Line;
 use host::Answer;
 
 // Sums over accepted frames.
-#[derive(Drop)]
+#[derive(Clone, Copy)]
 pub struct Totals {
     pub messages: u64,
     pub bytes: u64,

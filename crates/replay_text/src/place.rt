@@ -39,7 +39,7 @@ const CLOSED: usize = 4;
 
 // What a fragment brought: what is said of it where no line ended, how many bytes were taken, and whether a line ended,
 // which a host has to answer.
-#[derive(Drop)]
+#[derive(Clone, Copy)]
 pub struct Taking {
     pub reply: Reply,
     pub taken: usize,
@@ -47,14 +47,14 @@ pub struct Taking {
 }
 
 // What feeding answers: what it says of a line, and how many bytes were taken.
-#[derive(Drop)]
+#[derive(Clone, Copy)]
 pub struct Fed {
     pub reply: Reply,
     pub taken: usize,
 }
 
 // What closing answers: what it says of a last line, and the totals.
-#[derive(Drop)]
+#[derive(Clone, Copy)]
 pub struct Closed {
     pub reply: Reply,
     pub totals: Totals,

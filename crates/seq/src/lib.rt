@@ -1,13 +1,15 @@
 // Frame numbers and transaction numbers: two kinds, so that one can't be passed for the other, each wrapping in its
 // own number space. Assumes nothing. It promises distance and advance as specs/Ring.antt defines them for any number
 // space.
+#![tactic(auto)]
+
 ghost use Rattle.std.specs.Prelude.{◌≡◌};
 ghost use Rattle.seq.specs.Ring.{distance, advance, frame_space, trans_space};
 
-#[derive(Drop)]
+#[derive(Clone, Copy)]
 pub struct FrameNo(pub u16);
 
-#[derive(Drop)]
+#[derive(Clone, Copy)]
 pub struct TransNo(pub u32);
 
 impl FrameNo {

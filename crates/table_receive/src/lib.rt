@@ -2,6 +2,8 @@
 // memory are lent too. The host's own receiving runs on the part of the words that holds the source's pair, and on the
 // source's region of the memory. Assumes nothing. It promises table, answer and every byte of memory as
 // table/specs/Table.antt, table_receive, says of the table that the words hold (specs/TableReceiving.antt).
+#![tactic(auto)]
+
 pub mod acknowledge;
 
 ghost use Rattle.std.specs.Prelude.{◌≡◌, length};
@@ -12,7 +14,7 @@ use host::Answer;
 use host_receive::refuse;
 
 // The refusal of a frame by the table, 0 for none; and then the place of its source and the source's region.
-#[derive(Drop)]
+#[derive(Clone, Copy)]
 pub struct Reached {
     pub refusal: u8,
     pub place: usize,

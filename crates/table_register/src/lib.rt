@@ -1,6 +1,8 @@
 // Opening a table in 1,121 words that the caller lends, registering a source with a region of memory, and removing it.
 // Assumes nothing: words of another number stay as they are. It promises the table that the words hold then, and the
 // refusal, as table/specs/Table.antt has them (specs/TableChanging.antt).
+#![tactic(auto)]
+
 pub mod adopt;
 
 ghost use Rattle.std.specs.Prelude.{◌≡◌, ◌<◌, length};

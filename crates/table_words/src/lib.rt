@@ -1,5 +1,7 @@
 // A table of 16 pairs in 1,121 words that a caller lends, read where it lies. Assumes nothing of the words: any hold a
 // table, and one that is not there is 0. It promises the table that the words hold (specs/TableWords.antt).
+#![tactic(auto)]
+
 pub mod describe;
 
 ghost use Rattle.std.specs.Prelude.{◌≡◌, ◌+◌, ltb};

@@ -1,6 +1,8 @@
 // The wire format: its types, and where the next header goes. Assumes nothing. It promises specs/Format.antt; what a
 // frame's bytes mean is specs/Reading.antt and specs/Writing.antt, that what is written reads back is
 // proofs/RoundTrip.antt, and the crates wire_read and wire_write have the code.
+#![tactic(auto)]
+
 ghost use Rattle.std.specs.Prelude.{◌≡◌};
 ghost use Rattle.wire.specs.Format.{needed, header_after};
 
@@ -22,7 +24,7 @@ pub const LENGTH_AT: usize = 20;
 pub const TRAILING_AT: usize = 23;
 
 // The header of a frame, as it stands on the wire.
-#[derive(Drop)]
+#[derive(Clone, Copy)]
 pub struct FrameHeader {
     pub destination: u16,
     pub source: u16,
@@ -51,7 +53,7 @@ pub fn next_header(end: usize) -> usize
 
 // The header of a message: its transaction's number, where its completion goes and what that writes, how many data
 // messages it has, and the address of this one's data. The data's length is that of a slice beside it.
-#[derive(Drop)]
+#[derive(Clone, Copy)]
 pub struct MessageHeader {
     pub trans: TransNo,
     pub completion_address: u32,

@@ -16,7 +16,7 @@ ghost use Rattle.wire_read.specs.Layout.{layout_of, number_of, messages_of, byte
 use crate::Found;
 
 // A frame as a whole: the refusal's number; or its messages and their data bytes.
-#[derive(Drop)]
+#[derive(Clone, Copy)]
 pub enum Layout {
     Refused(u8),
     Counts(u32, u32),

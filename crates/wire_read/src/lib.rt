@@ -1,5 +1,7 @@
 // Reading a lent frame: its header, and its messages one by one with their data as parts of the frame. Assumes nothing:
 // any bytes get an answer. It promises what specs/Finding.antt says, over the format of the crate wire.
+#![tactic(auto)]
+
 pub mod layout;
 
 ghost use Rattle.std.specs.Prelude.{◌≡◌, ◌+◌, ◌≤◌, ◌<◌, length};
@@ -10,7 +12,7 @@ use seq::{FrameNo, TransNo};
 use wire::{FrameHeader, MessageHeader};
 
 // What stands at an offset.
-#[derive(Drop)]
+#[derive(Clone, Copy)]
 pub enum Found {
     // A message header or its data passes the frame's end.
     PastEnd,

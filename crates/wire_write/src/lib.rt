@@ -1,5 +1,7 @@
 // Building a frame with messages inside a lent slot, one message a call. Assumes nothing: a message that has no room is
 // not written at all. It promises every byte of the slot, as wire/specs/Writing.antt says.
+#![tactic(auto)]
+
 pub mod headers;
 
 ghost use Rattle.std.specs.Prelude.{◌≡◌, ◌++◌, ◌+◌, ◌≤◌, ◌<◌, length, set};

@@ -1,5 +1,7 @@
 // Words of 64 bits that a caller lends, and the numbers of 16 and 32 bits in a word. Assumes nothing: past the end a
 // word is 0 and nothing is stored, and so with a fifth quarter and a third half. It promises specs/Words.antt.
+#![tactic(auto)]
+
 ghost use Rattle.std.specs.Prelude.{◌≡◌, get_or, set};
 ghost use Rattle.words.specs.Words.{quarter, half, of_quarters, of_halves, with_quarter};
 
