@@ -1,0 +1,22 @@
+-- `word32::below`: one less than the next power, and all marks where there is no such power in the word.
+-- Assumes nothing.
+use mathlib.Core.Path.{◌∙◌, ap}
+use Prim.Native.Nat.{ℕ, ◌-◌}
+use native.Mathlib.Omega.{arith}
+use lib.Pow.{pow_pos}
+use Rattle.bitmap.proofs.Masks.{shl_one, below-is, below_all}
+use borrow.Author.Rules.{rules}
+use Rattle.bitmap.proofs.word32.below.Goals as goal
+
+pub returns-then-end-ge32 : goal.returns-then-end-ge32
+returns-then-end-ge32 c = below_all 32 c.args.end (search rules)
+
+pub overflow_sub-result : goal.overflow_sub-result
+overflow_sub-result c =
+    let p = shl_one 32 c.args.end (search rules) in
+    omega (arith, p, pow_pos c.args.end)
+
+pub returns : goal.returns
+returns c =
+    let p = shl_one 32 c.args.end (search rules) in
+    ap (λ (n : ℕ). n - 1) p ∙ below-is 32 c.args.end (search rules)

@@ -1,0 +1,12 @@
+-- `word32::with_mark` sets the mark that the word has, and no other.
+-- Assumes nothing.
+use mathlib.Core.Path.{sym}
+use Rattle.bitmap.proofs.Marks.{with_mark-past, or-shl}
+use borrow.Author.Rules.{rules}
+use Rattle.bitmap.proofs.word32.with_mark.Goals as goal
+
+pub returns-then-i-ge32 : goal.returns-then-i-ge32
+returns-then-i-ge32 c = sym (with_mark-past 32 _ _ (search rules))
+
+pub returns : goal.returns
+returns c = or-shl 32 _ _ (search rules)

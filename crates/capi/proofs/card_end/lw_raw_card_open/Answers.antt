@@ -1,0 +1,9 @@
+-- `capi::card_end::lw_raw_card_open`: what the library's face answers.
+-- Assumes nothing.
+use borrow.Author.Rules.{rules}
+use Rattle.capi.proofs.card_end.lw_raw_card_open.Goals as goal
+
+pub returns : goal.returns
+returns c =
+    let whole = c.open_card.ensures in
+    record { value = whole.0; words_after = whole.1 }

@@ -1,0 +1,23 @@
+-- `capi::card_end::lw_raw_card_open_transaction`: the number where the step is not refused.
+-- Assumes nothing.
+use mathlib.Core.Path.{refl, ap, ◌∙◌, sym}
+use borrow.Author.Tests.{eq-eqb, ne_eqb}
+use Rattle.seq.specs.declared.TransNo.{TransNo}
+use borrow.Author.Rules.{rules}
+use Rattle.capi.proofs.card_end.lw_raw_card_open_transaction.Goals as goal
+
+pub returns-then-opened-ne0 : goal.returns-then-opened-ne0
+returns-then-opened-ne0 c =
+    let whole = (c.open_transaction-opened.ensures.refusal_value, (c.open_transaction-opened.ensures.trans_value.1.0, (rw (ne_eqb _ 0 (λ q. c.if-opened-ne0.true (c.open_transaction-opened.ensures.refusal_value ∙ q))), c.open_transaction-opened.ensures.trans_value.1.1))) in
+    record { value = whole.0; words_after = whole.1; transaction_after = whole.2; left_if_refused = whole.3 }
+
+pub returns : goal.returns
+returns c =
+    let whole = (
+      sym c.if-opened-ne0.false ∙ c.open_transaction-opened.ensures.refusal_value,
+      (
+        c.open_transaction-opened.ensures.trans_value.1.0,
+        (rw (eq-eqb _ 0 (sym c.open_transaction-opened.ensures.refusal_value ∙ c.if-opened-ne0.false)) (ap (λ (n : TransNo). n.0) c.open_transaction-opened.ensures.trans_value.0), λ ne. absurd (ne refl)),
+      ),
+    ) in
+    record { value = whole.0; words_after = whole.1; transaction_after = whole.2; left_if_refused = whole.3 }

@@ -1,0 +1,9 @@
+-- `capi::cards_end::lw_raw_table_take`: what the library's face answers.
+-- Assumes nothing.
+use borrow.Author.Rules.{rules}
+use Rattle.capi.proofs.cards_end.lw_raw_table_take.Goals as goal
+
+pub returns : goal.returns
+returns c =
+    let whole = c.take.ensures in
+    record { value = whole.0; pair_after = whole.1; left_if_refused = whole.2 }

@@ -1,0 +1,9 @@
+-- `capi::host_by_value::lw_raw_host_acknowledge_by_value`: the bytes where they are due, from the pair unpacked.
+-- Assumes nothing.
+use borrow.Author.Rules.{rules}
+use Rattle.capi.proofs.host_by_value.lw_raw_host_acknowledge_by_value.Goals as goal
+
+pub returns : goal.returns
+returns c =
+    let e = rw (c.unpack.ensures, c.answer_of-a.ensures) at c.acknowledge_by_value-ack.ensures in let whole = rw e at c.put_acknowledgement.ensures in
+    record { value = whole.0; frame_after = whole.1 }

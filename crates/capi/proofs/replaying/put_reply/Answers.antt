@@ -1,0 +1,10 @@
+-- `capi::replaying::put_reply`: each case's number, and an answer's words.
+-- Assumes nothing.
+use mathlib.Core.Path.{refl}
+use borrow.Author.Rules.{rules}
+use Rattle.capi.proofs.replaying.put_reply.Goals as goal
+
+pub returns-in-Nothing : goal.returns-in-Nothing
+returns-in-Nothing c =
+    let whole = (refl, refl) in
+    record { value = rw c.enum_told-1.given.1 whole.0; answer_after = rw c.enum_told-1.given.1 whole.1 }

@@ -1,0 +1,23 @@
+-- `acknowledge`: the frames are marked and released, then transactions finish.
+-- Assumes nothing.
+use native.Mathlib.Omega.{arith}
+use Rattle.bitmap.proofs.Marks.{ones-le}
+use Rattle.card_acks.proofs.InPlace.{released-now}
+use borrow.Author.Rules.{rules}
+use Rattle.card_acks.proofs.acknowledge.Goals as goal
+
+pub overflow_cast-run : goal.overflow_cast-run
+overflow_cast-run c =
+    omega (
+      arith,
+      c.trailing_ones-run.ensures,
+      ones-le 64 c.acknowledged_marks-acked.result,
+    )
+
+pub returns : goal.returns
+returns c =
+    let a = c.args in
+    λ l. released-now a.words.now _ c.head_of-h.ensures a.start.0 a.count _ _ _ _ _ _ _ _ _
+    c.acknowledged_marks-acked.ensures c.trailing_ones-run.ensures c.shifted.ensures c.advance-base.ensures
+    c.finished_marks-finished.ensures c.trailing_ones-gone.ensures c.shifted-2.ensures c.advance-next.ensures
+    (c.put_head.ensures.0 l)

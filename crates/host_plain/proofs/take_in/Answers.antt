@@ -1,0 +1,26 @@
+-- `host_plain::take_in`: kept open, or marked as closed and the window moved.
+-- Assumes nothing.
+use Rattle.std.proofs.Common.{◌≡◌, length, sym, ◌∙◌, arith, length-set, rules}
+use borrow.Author.Tests.{not-true, not-false}
+use lib.ListN.{length-map}
+use Rattle.host_plain.specs.Plain.{keeping}
+use Rattle.host_plain.proofs.Messages.{closing-is, after-closing, after-keeping}
+use Rattle.host_plain.proofs.take_in.Goals as goal
+
+pub returns-then-not-is_complete : goal.returns-then-not-is_complete
+unfolding keeping
+returns-then-not-is_complete c =
+    let a = c.args in
+    rw c.wrapping_add_u16.ensures
+    (after-keeping a.t a.h (sym c.is_complete.ensures ∙ not-true _ c.if-not-is_complete.true-raw))
+
+pub move_past_set-places-requires : goal.move_past_set-places-requires
+move_past_set-places-requires c =
+    let l : length c.args.t.closed ≡ 32 = simp length-map at c.well_formed.0.1.1.1.0.1.0.1 in
+    simp length-set (omega arith, omega arith)
+
+pub returns : goal.returns
+returns c =
+    let a = c.args in
+    closing-is a.t a.h _ _ _ _ c.distance.ensures c.move_past_set-places.ensures.value c.move_past_set-places.ensures.marks_after c.advance.ensures
+    ∙ after-closing a.t a.h (sym c.is_complete.ensures ∙ not-false _ c.if-not-is_complete.false-raw)

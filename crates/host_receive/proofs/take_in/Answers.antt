@@ -1,0 +1,33 @@
+-- `host_receive::take_in`: refused and nothing changed, or both passes.
+-- Assumes nothing.
+use Rattle.std.proofs.Common.{sym, refl, ap, ◌∙◌, true≢false, rules}
+use Rattle.host.specs.Host.{Received}
+use Rattle.host_words.specs.Words.{pair_of}
+use Rattle.host_receive.proofs.Awaiting.{stays, new-refused, new-taken}
+use Rattle.host_receive.proofs.take_in.Goals as goal
+
+pub returns-then-found-ne0 : goal.returns-then-found-ne0
+returns-then-found-ne0 c =
+    λ d w new clear l.
+    let a = c.args in
+    let e = new-refused (pair_of a.words.now) a.f.now a.memory.now _ d w new clear _
+    c.validate-found.ensures c.if-found-ne0.true in
+    let s = stays _ _ _ _ e in (
+      s.0,
+      s.1,
+      c.refuse.ensures ∙ rw (c.peer.ensures, c.own.ensures) s.2,
+      λ q. refl,
+    )
+
+pub returns : goal.returns
+returns c =
+    λ d w new clear l.
+    let a = c.args in
+    let n = new-taken (pair_of a.words.now) a.f.now a.memory.now _ d w new clear _
+    c.validate-found.ensures c.if-found-ne0.false in (
+      c.accept-run.ensures.words_after.1 (c.apply.auto.0 ∙ l)
+          ∙ rw (c.apply.ensures.0 l).0 (sym (ap (λ (r : Received). r.pair) n)),
+      (c.apply.ensures.0 l).1 ∙ sym (ap (λ (r : Received). r.memory) n),
+      rw (c.accept-run.ensures.value, (c.apply.ensures.0 l).0) (sym (ap (λ (r : Received). r.answer) n)),
+      λ q. absurd (true≢false q),
+    )

@@ -1,0 +1,14 @@
+-- `host_store::store::digit`: the digit of a number below 16.
+-- Assumes nothing.
+use borrow.Author.Tests.{lt-ltb, le-ltb}
+use Rattle.hexadecimal.specs.Fields.{digit_of}
+use borrow.Author.Rules.{rules}
+use Rattle.host_store.proofs.store.digit.Goals as goal
+
+pub returns-then-d-lt10 : goal.returns-then-d-lt10
+unfolding digit_of
+returns-then-d-lt10 c = rw (lt-ltb _ _ c.if-d-lt10.true)
+
+pub returns : goal.returns
+unfolding digit_of
+returns c = rw (le-ltb _ _ c.if-d-lt10.false)

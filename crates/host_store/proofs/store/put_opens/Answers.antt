@@ -1,0 +1,21 @@
+-- `host_store::store::put_opens`: the lines put so far and those that are left.
+-- Assumes nothing.
+use Prim.Native.Nat.{◌-◌}
+use borrow.Author.Rules.{rules}
+use Rattle.host_words.specs.Words.{pair_of}
+use Rattle.host_store.proofs.store.Putting.{Puts, puts-start, puts-room, puts-turn, puts-end}
+use Rattle.host_store.proofs.store.put_opens.Goals as goal
+
+pub loop-j-init : goal.loop-j-init
+loop-j-init c = puts-start _ _ _ c.requires
+
+pub put_open-end-requires : goal.put_open-end-requires
+put_open-end-requires c = puts-room c.loop-j.invariant c.loop-j-test.true
+
+pub loop-j-preserved : goal.loop-j-preserved
+loop-j-preserved c =
+    puts-turn c.loop-j.invariant c.loop-j-test.true _ _ c.put_open-end.auto.0
+    c.put_open-end.ensures.value c.put_open-end.ensures.out_after
+
+pub returns : goal.returns
+returns c = puts-end c.loop-j.invariant c.loop-j-test.false

@@ -1,0 +1,13 @@
+-- `host_store::store::put_opens`: the lines put so far and those that are left.
+-- Assumes nothing.
+use Prim.Native.Nat.{◌-◌}
+use borrow.Author.Rules.{rules}
+use Rattle.host_words.specs.Words.{pair_of}
+use Rattle.host_store.proofs.store.Putting.{Puts, puts-start, puts-room, puts-turn, puts-end}
+use Rattle.host_store.proofs.store.put_opens.Given as goal
+
+abbrev pub invariant-loop-j : goal.invariant-loop-j
+invariant-loop-j l = Puts l.initial.out l.at (pair_of l.words) l.out l.end l.j
+
+abbrev pub decreases-loop-j : goal.decreases-loop-j
+decreases-loop-j l = 32 - l.j

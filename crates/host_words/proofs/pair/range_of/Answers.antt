@@ -1,0 +1,16 @@
+-- `host_words::pair::range_of`: each answer's range.
+-- Assumes nothing.
+use borrow.Author.Rules.{rules}
+use Rattle.host_words.proofs.pair.range_of.Goals as goal
+
+pub returns-in-Accepted : goal.returns-in-Accepted
+returns-in-Accepted c = rw c.answer-1.given.1
+
+pub returns-in-Again : goal.returns-in-Again
+returns-in-Again c = rw c.answer-in-Again-1.given.1
+
+pub returns-in-NoMessages : goal.returns-in-NoMessages
+returns-in-NoMessages c = rw c.enum_told-1.given.1
+
+pub returns-in-Refused : goal.returns-in-Refused
+returns-in-Refused c = rw c.enum_told-in-Refused-1.given.1

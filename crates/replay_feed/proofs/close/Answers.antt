@@ -1,0 +1,33 @@
+-- `replay_feed::close`: no last line, or one and what the host says of it.
+-- Assumes nothing.
+use mathlib.Core.Path.{◌≡◌, sym, ◌∙◌}
+use mathlib.Core.List.{List, [], ◌∷◌}
+use Prim.Native.Nat.{ℕ}
+use native.Mathlib.Omega.{arith}
+use lib.ListN.{length}
+use Rattle.host_words.specs.Words.{pair_of}
+use Rattle.replay_text.proofs.place.Words.{answered-left, closing-left}
+use Rattle.replay_text.proofs.place.Steps.{closed-bare, closed-line}
+use borrow.Author.Rules.{rules}
+use Rattle.replay_feed.proofs.close.Goals as goal
+
+pub returns-then-has_last : goal.returns-then-has_last
+returns-then-has_last c =
+    let a = c.args in
+    let n : length a.frame.now ≡ 9000 = omega arith in
+    let told =
+    closed-line a.place.now (pair_of a.words.now) a.frame.now a.memory.now (omega (arith, n))
+    (sym c.has_last.ensures ∙ c.if-has_last.true) _ _ _ _ c.end_line-answer.ensures.answers
+    c.end_line-answer.ensures.place_after _ _ c.close-end.ensures in let whole = (told.0, (told.1, answered-left _ _ _)) in
+    record { value = whole.0; memory_after = whole.1; left_if_closed = whole.2 }
+
+pub returns : goal.returns
+returns c =
+    let a = c.args in
+    let n : length a.frame.now ≡ 9000 = omega arith in
+    let told =
+    closed-bare a.place.now (pair_of a.words.now) a.frame.now a.memory.now (omega (arith, n))
+    (sym c.has_last.ensures ∙ c.if-has_last.false) _ _ c.close.ensures in
+    let left =
+    closing-left a.place.now _ _ c.close.ensures (λ (p : List ℕ). p ∷ a.words.now ∷ a.memory.now ∷ []) in let whole = (told.0, (told.1, left)) in
+    record { value = whole.0; memory_after = whole.1; left_if_closed = whole.2 }

@@ -1,0 +1,34 @@
+-- `replay_feed::feed`: a part of a line, or a line and what the host says of it.
+-- Assumes nothing.
+use mathlib.Core.Path.{◌≡◌}
+use mathlib.Core.List.{List, [], ◌∷◌}
+use Prim.Native.Nat.{ℕ}
+use native.Mathlib.Omega.{arith}
+use lib.ListN.{length}
+use Rattle.host_words.specs.Words.{pair_of}
+use Rattle.replay_text.proofs.place.Words.{answered-left, taking-left}
+use Rattle.replay_text.proofs.place.Steps.{fed-part, fed-line}
+use borrow.Author.Rules.{rules}
+use Rattle.replay_feed.proofs.feed.Goals as goal
+
+pub returns-then-got : goal.returns-then-got
+returns-then-got c =
+    let a = c.args in
+    let n : length a.frame.now ≡ 9000 = omega arith in
+    let fed =
+    fed-line a.place.now (pair_of a.words.now) a.frame.now a.memory.now a.fragment.now
+    (omega (arith, n)) _ _ _ c.take_in-got.ensures.value c.take_in-got.ensures.place_after.0 c.take_in-got.ensures.place_after.1 c.if-got.true _ _ _ _ c.end_line-answer.ensures.answers
+    c.end_line-answer.ensures.place_after in let whole = (fed.0, (fed.1, answered-left _ _ _)) in
+    record { value = whole.0; memory_after = whole.1; left_if_closed = whole.2 }
+
+pub returns : goal.returns
+returns c =
+    let a = c.args in
+    let n : length a.frame.now ≡ 9000 = omega arith in
+    let fed =
+    fed-part a.place.now (pair_of a.words.now) a.frame.now a.memory.now a.fragment.now
+    (omega (arith, n)) _ _ _ c.take_in-got.ensures.value c.take_in-got.ensures.place_after.0 c.take_in-got.ensures.place_after.1 c.if-got.false in
+    let left =
+    taking-left a.place.now a.frame.now a.fragment.now _ _ _ c.take_in-got.ensures
+    (λ (p f : List ℕ). p ∷ a.words.now ∷ f ∷ a.memory.now ∷ []) in let whole = (fed.0, (fed.1, left)) in
+    record { value = whole.0; memory_after = whole.1; left_if_closed = whole.2 }

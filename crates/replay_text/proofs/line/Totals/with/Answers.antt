@@ -1,0 +1,13 @@
+-- `replay_text::line::Totals::with`: sums over accepted frames.
+-- Assumes nothing.
+use Rattle.std.proofs.Common.{rules}
+use Rattle.replay_text.proofs.line.Totals.with.Goals as goal
+
+pub returns-in-Accepted : goal.returns-in-Accepted
+returns-in-Accepted c =
+    rw (
+      c.answer-1.given.1,
+      c.wrapping_add_u64.ensures,
+      c.wrapping_add_u64-in-Accepted.ensures,
+      c.wrapping_add_u64-in-Accepted-2.ensures,
+    )

@@ -1,0 +1,11 @@
+-- `wire_read::layout::Layout::messages`: the first count, or none.
+-- Assumes nothing.
+use mathlib.Core.Path.{refl}
+use borrow.Author.Rules.{rules}
+use Rattle.wire_read.proofs.layout.Layout.messages.Goals as goal
+
+pub returns-in-Refused : goal.returns-in-Refused
+returns-in-Refused c = rw c.enum_told-1.given.1 refl
+
+pub returns-in-Counts : goal.returns-in-Counts
+returns-in-Counts c = rw c.self-1.given.1 refl

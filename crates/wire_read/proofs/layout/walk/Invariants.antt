@@ -1,0 +1,17 @@
+-- `wire_read::layout::walk` goes from message to message as the definition does.
+-- Assumes nothing.
+use mathlib.Core.Path.{sym, ◌∙◌}
+use Prim.Native.Nat.{◌+◌, ◌-◌, ◌≤◌}
+use native.Mathlib.Omega.{arith}
+use borrow.Author.Tests.{not-true, not-false}
+use borrow.Author.Rules.{rules}
+use lib.ListN.{length}
+use Rattle.wire_read.proofs.Finding.{is_whole}
+use Rattle.wire_read.proofs.layout.Reading.{Walked, walked_start, walked-past, walked-last, walked-turn}
+use Rattle.wire_read.proofs.layout.walk.Given as goal
+
+abbrev pub invariant-loop-len : goal.invariant-loop-len
+invariant-loop-len l = Walked l.f l.at l.messages l.bytes × (length l.f ≤ 9000)
+
+abbrev pub decreases-loop-len : goal.decreases-loop-len
+decreases-loop-len l = length l.f + 18 - l.at

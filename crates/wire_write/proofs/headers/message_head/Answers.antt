@@ -1,0 +1,72 @@
+-- `wire_write::headers::message_head` is the definition's 24 bytes, in its own shape.
+-- Assumes nothing.
+use mathlib.Core.Path.{refl}
+use Rattle.octets.specs.Octets.{little}
+use Rattle.octets.proofs.Octets.{byte_fits}
+use Rattle.wire.specs.Format.{carrying}
+use Rattle.wire.specs.Writing.{message_head}
+use Rattle.wire_write.proofs.headers.message_head.Goals as goal
+
+pub overflow_cast-result : goal.overflow_cast-result
+overflow_cast-result c = byte_fits _
+
+pub overflow_cast-result-2 : goal.overflow_cast-result-2
+overflow_cast-result-2 c = byte_fits _
+
+pub overflow_cast-result-3 : goal.overflow_cast-result-3
+overflow_cast-result-3 c = byte_fits _
+
+pub overflow_cast-result-4 : goal.overflow_cast-result-4
+overflow_cast-result-4 c = byte_fits _
+
+pub overflow_cast-result-5 : goal.overflow_cast-result-5
+overflow_cast-result-5 c = byte_fits _
+
+pub overflow_cast-result-6 : goal.overflow_cast-result-6
+overflow_cast-result-6 c = byte_fits _
+
+pub overflow_cast-result-7 : goal.overflow_cast-result-7
+overflow_cast-result-7 c = byte_fits _
+
+pub overflow_cast-result-8 : goal.overflow_cast-result-8
+overflow_cast-result-8 c = byte_fits _
+
+pub overflow_cast-result-9 : goal.overflow_cast-result-9
+overflow_cast-result-9 c = byte_fits _
+
+pub overflow_cast-result-10 : goal.overflow_cast-result-10
+overflow_cast-result-10 c = byte_fits _
+
+pub overflow_cast-result-11 : goal.overflow_cast-result-11
+overflow_cast-result-11 c = byte_fits _
+
+pub overflow_cast-result-12 : goal.overflow_cast-result-12
+overflow_cast-result-12 c = byte_fits _
+
+pub overflow_cast-result-13 : goal.overflow_cast-result-13
+overflow_cast-result-13 c = byte_fits _
+
+pub overflow_cast-result-14 : goal.overflow_cast-result-14
+overflow_cast-result-14 c = byte_fits _
+
+pub overflow_cast-result-15 : goal.overflow_cast-result-15
+overflow_cast-result-15 c = byte_fits _
+
+pub overflow_cast-result-16 : goal.overflow_cast-result-16
+overflow_cast-result-16 c = byte_fits _
+
+pub overflow_cast-result-17 : goal.overflow_cast-result-17
+overflow_cast-result-17 c = byte_fits _
+
+pub overflow_cast-result-18 : goal.overflow_cast-result-18
+overflow_cast-result-18 c = byte_fits _
+
+pub overflow_cast-result-19 : goal.overflow_cast-result-19
+overflow_cast-result-19 c = byte_fits _
+
+pub overflow_cast-result-20 : goal.overflow_cast-result-20
+overflow_cast-result-20 c = byte_fits _
+
+pub returns : goal.returns
+unfolding message_head carrying little
+returns c = refl

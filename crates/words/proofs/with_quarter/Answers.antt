@@ -1,0 +1,32 @@
+-- `words::with_quarter`: the number is taken out of its bits, and v put in.
+-- Assumes nothing.
+use mathlib.Core.Path.{sym}
+use native.Mathlib.Omega.{arith}
+use Rattle.words.specs.Words.{part}
+use Rattle.words.proofs.Words.{replaced, put-past}
+use borrow.Author.Rules.{rules}
+use Rattle.words.proofs.with_quarter.Goals as goal
+
+pub returns-then-j-ge4 : goal.returns-then-j-ge4
+returns-then-j-ge4 c =
+    let a = c.args in
+    sym (put-past 16 4 a.x a.j a.v (search rules) c.if-j-ge4.true)
+
+pub overflow_sub-result : goal.overflow_sub-result
+unfolding part
+overflow_sub-result c =
+    let a = c.args in
+    (replaced 16 4 a.x a.j a.v (search rules) c.if-j-ge4.false (search rules)).out-fits
+
+pub overflow_add-result : goal.overflow_add-result
+unfolding part
+overflow_add-result c =
+    let a = c.args in
+    let k = replaced 16 4 a.x a.j a.v (search rules) c.if-j-ge4.false (search rules) in
+    omega (arith, k.is, k.is-fits)
+
+pub returns : goal.returns
+unfolding part
+returns c =
+    let a = c.args in
+    (replaced 16 4 a.x a.j a.v (search rules) c.if-j-ge4.false (search rules)).is
