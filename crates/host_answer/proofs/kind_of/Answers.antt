@@ -4,13 +4,13 @@ use borrow.Author.Rules.{rules}
 use Rattle.host_answer.proofs.kind_of.Goals as goal
 
 pub returns-in-Accepted : goal.returns-in-Accepted
-returns-in-Accepted c = rw c.enum_told-1.given.1
+returns-in-Accepted c = rw c.in-Accepted.is
 
 pub returns-in-Again : goal.returns-in-Again
-returns-in-Again c = rw c.enum_told-in-Again-1.given.1
+returns-in-Again c = rw c.in-Again.is
 
 pub returns-in-NoMessages : goal.returns-in-NoMessages
-returns-in-NoMessages c = rw c.enum_told-in-NoMessages-1.given.1
+returns-in-NoMessages c = rw c.in-NoMessages.is
 
 pub returns-in-Refused : goal.returns-in-Refused
-returns-in-Refused c = rw c.enum_told-in-Refused-1.given.1
+returns-in-Refused c = rw c.in-Refused.is

@@ -24,11 +24,11 @@ loop-refusal-init c = (steady-start _ c.requires, going_start _ _ _ _)
 pub returns-in-PastEnd : goal.returns-in-PastEnd
 returns-in-PastEnd c =
     going-past c.loop-refusal.invariant.1 _
-    (sym c.message_at-found.ensures ∙ c.enum_told-1.given.1)
+    (sym c.message_at-found.ensures ∙ c.in-PastEnd.is)
 
 pub returns-then-refusal-ne0 : goal.returns-then-refusal-ne0
 returns-then-refusal-ne0 c =
-    let w = is_whole (sym c.message_at-found.ensures ∙ c.found-1.given.1) in
+    let w = is_whole (sym c.message_at-found.ensures ∙ c.in-Whole.is) in
     going-stops c.loop-refusal.invariant.1 w _ c.message_refusal-refusal.ensures c.if-refusal-ne0.true
 
 pub take_in-t-requires : goal.take_in-t-requires
@@ -40,7 +40,7 @@ count-sums-requires c =
 
 pub returns-then-not-more : goal.returns-then-not-more
 returns-then-not-more c =
-    let w = is_whole (sym c.message_at-found.ensures ∙ c.found-1.given.1) in
+    let w = is_whole (sym c.message_at-found.ensures ∙ c.in-Whole.is) in
     rw (c.count-sums.ensures, c.take_in-t.ensures)
     (going-ends c.loop-refusal.invariant.1 w _ c.message_refusal-refusal.ensures c.if-refusal-ne0.false _
     c.is_complete-done.ensures
@@ -50,12 +50,12 @@ returns-then-not-more c =
 
 pub loop-refusal-smaller : goal.loop-refusal-smaller
 loop-refusal-smaller c =
-    let w = is_whole (sym c.message_at-found.ensures ∙ c.found-1.given.1) in
+    let w = is_whole (sym c.message_at-found.ensures ∙ c.in-Whole.is) in
     omega (arith, c.loop-refusal.invariant.0, w)
 
 pub loop-refusal-preserved : goal.loop-refusal-preserved
 loop-refusal-preserved c =
-    let w = is_whole (sym c.message_at-found.ensures ∙ c.found-1.given.1) in
+    let w = is_whole (sym c.message_at-found.ensures ∙ c.in-Whole.is) in
     rw (c.count-sums.ensures, c.take_in-t.ensures) (
       steady-turn c.loop-refusal.invariant.0 w _,
       going_on c.loop-refusal.invariant.1 w _ c.message_refusal-refusal.ensures c.if-refusal-ne0.false _

@@ -11,7 +11,7 @@ pub returns-then-not-is_complete : goal.returns-then-not-is_complete
 unfolding keeping
 returns-then-not-is_complete c =
     let a = c.args in
-    rw c.wrapping_add_u16.ensures
+    rw c.wrapping_add_u16.ensures.value
     (after-keeping a.t a.h (sym c.is_complete.ensures ∙ not-true _ c.if-not-is_complete.true-raw))
 
 pub move_past_set-places-requires : goal.move_past_set-places-requires

@@ -12,4 +12,4 @@ returns-then-kept-lt-READ c = rw (lt-leb counter_space _ c.if-kept-lt-READ.true)
 pub returns : goal.returns
 returns c =
     rw (le-leb counter_space _ c.if-kept-lt-READ.false)
-    (distance-unique counter_space (lit< tt) _ _ _ c.wrapping_sub_u32.ensures (search rules) (search rules))
+    (distance-unique counter_space (lit< tt) _ _ _ c.wrapping_sub_u32.ensures.value (search rules) (search rules))

@@ -8,3 +8,7 @@ use Rattle.words.proofs.half.Goals as goal
 
 pub returns-then-j-ge2 : goal.returns-then-j-ge2
 returns-then-j-ge2 c = sym (part-past 32 2 c.args.x c.args.j (search rules) c.if-j-ge2.true)
+
+pub returns : goal.returns
+unfolding part
+returns c = search rules

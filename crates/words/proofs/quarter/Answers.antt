@@ -8,3 +8,7 @@ use Rattle.words.proofs.quarter.Goals as goal
 
 pub returns-then-j-ge4 : goal.returns-then-j-ge4
 returns-then-j-ge4 c = sym (part-past 16 4 c.args.x c.args.j (search rules) c.if-j-ge4.true)
+
+pub returns : goal.returns
+unfolding part
+returns c = search rules

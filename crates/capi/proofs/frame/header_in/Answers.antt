@@ -35,7 +35,7 @@ refused f read r e q = rw (← e, q)
 pub returns-in-Counts : goal.returns-in-Counts
 returns-in-Counts c =
     c.frame_header-header.ensures
-    ∙ whole _ _ _ _ c.layout_of-read.ensures c.enum_told-1.given.1
+    ∙ whole _ _ _ _ c.layout_of-read.ensures c.in-Counts.is
 
 pub returns-in-Refused : goal.returns-in-Refused
-returns-in-Refused c = refused _ _ _ c.layout_of-read.ensures c.enum_told-in-Refused-1.given.1
+returns-in-Refused c = refused _ _ _ c.layout_of-read.ensures c.in-Refused.is

@@ -14,7 +14,7 @@ loop-i-init c = applying-start _ _ _ _ c.if-words-ne-WORDS.false
 pub returns-in-PastEnd : goal.returns-in-PastEnd
 returns-in-PastEnd c =
     (
-      λ l. applying-past c.loop-i.invariant (sym c.message_at-found.ensures ∙ c.enum_told-1.given.1),
+      λ l. applying-past c.loop-i.invariant (sym c.message_at-found.ensures ∙ c.in-PastEnd.is),
       λ n. absurd (n c.loop-i.invariant.long),
     )
 
@@ -30,7 +30,7 @@ loop-i-smaller c =
 
 pub loop-i-preserved : goal.loop-i-preserved
 loop-i-preserved c =
-    let x = is_whole (sym c.message_at-found.ensures ∙ c.found-1.given.1) in
+    let x = is_whole (sym c.message_at-found.ensures ∙ c.in-Whole.is) in
     applying-turn c.loop-i.invariant x _ _ c.loop-i-test.true c.take_effect.auto.0
     (rw c.data_at.ensures at c.take_effect.ensures)
 

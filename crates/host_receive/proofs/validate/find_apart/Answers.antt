@@ -36,14 +36,14 @@ pub returns-in-PastEnd : goal.returns-in-PastEnd
 returns-in-PastEnd c =
     inr (c.refused_at-in-PastEnd.ensures
     ∙ walking-past c.loop-h.invariant.1
-    (sym c.message_at-found.ensures ∙ c.enum_told-1.given.1))
+    (sym c.message_at-found.ensures ∙ c.in-PastEnd.is))
 
 pub returns-then-is_marked : goal.returns-then-is_marked
 returns-then-is_marked c = inl (ap (λ (r : Validated). r.refusal) c.refused_at-then-is_marked.ensures)
 
 pub returns-then-v-ne0 : goal.returns-then-v-ne0
 returns-then-v-ne0 c =
-    let x = is_whole (sym c.message_at-found.ensures ∙ c.found-1.given.1) in
+    let x = is_whole (sym c.message_at-found.ensures ∙ c.in-Whole.is) in
     let clear = sym c.is_marked.ensures ∙ c.if-is_marked.false in
     inr (c.refused_at-then-v-ne0.ensures
     ∙ walking-stops c.loop-h.invariant.1 x (need-not c.args.words.now [] _ _ clear) (c.entry-o.ensures ∙ current-words c.args.words.now [] _ _ clear)
@@ -55,7 +55,7 @@ counted-counts-requires c =
 
 pub returns-then-not-more : goal.returns-then-not-more
 returns-then-not-more c =
-    let x = is_whole (sym c.message_at-found.ensures ∙ c.found-1.given.1) in
+    let x = is_whole (sym c.message_at-found.ensures ∙ c.in-Whole.is) in
     let clear = sym c.is_marked.ensures ∙ c.if-is_marked.false in
     let q = rw c.counted-counts.ensures at c.passed.ensures in
     inr (q
@@ -64,12 +64,12 @@ returns-then-not-more c =
 
 pub loop-h-smaller : goal.loop-h-smaller
 loop-h-smaller c =
-    let x = is_whole (sym c.message_at-found.ensures ∙ c.found-1.given.1) in
+    let x = is_whole (sym c.message_at-found.ensures ∙ c.in-Whole.is) in
     omega (arith, c.loop-h.invariant.0, x)
 
 pub loop-h-preserved : goal.loop-h-preserved
 loop-h-preserved c =
-    let x = is_whole (sym c.message_at-found.ensures ∙ c.found-1.given.1) in
+    let x = is_whole (sym c.message_at-found.ensures ∙ c.in-Whole.is) in
     let clear = sym c.is_marked.ensures ∙ c.if-is_marked.false in
     rw c.counted-counts.ensures (
       steady-turn c.loop-h.invariant.0 x c.judge-v.result.done,

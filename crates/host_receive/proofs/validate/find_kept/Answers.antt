@@ -35,11 +35,11 @@ pub returns-in-PastEnd : goal.returns-in-PastEnd
 returns-in-PastEnd c =
     c.refused_at-in-PastEnd.ensures
     ∙ walking-past c.loop-h.invariant.2
-    (sym c.message_at-found.ensures ∙ c.enum_told-1.given.1)
+    (sym c.message_at-found.ensures ∙ c.in-PastEnd.is)
 
 pub returns-then-v-ne0 : goal.returns-then-v-ne0
 returns-then-v-ne0 c =
-    let x = is_whole (sym c.message_at-found.ensures ∙ c.found-1.given.1) in
+    let x = is_whole (sym c.message_at-found.ensures ∙ c.in-Whole.is) in
     c.refused_at-then-v-ne0.ensures
     ∙ walking-stops c.loop-h.invariant.2 x (λ m. c.loop-h.invariant.1 ∙ c.requires)
     c.current_entry-o.ensures c.judge-v.ensures c.if-v-ne0.true
@@ -50,7 +50,7 @@ counted-counts-requires c =
 
 pub returns-then-not-more : goal.returns-then-not-more
 returns-then-not-more c =
-    let x = is_whole (sym c.message_at-found.ensures ∙ c.found-1.given.1) in
+    let x = is_whole (sym c.message_at-found.ensures ∙ c.in-Whole.is) in
     let q = rw c.counted-counts.ensures at c.passed.ensures in
     q ∙ walking-ends c.loop-h.invariant.2 x (λ m. c.loop-h.invariant.1 ∙ c.requires)
     c.current_entry-o.ensures c.judge-v.ensures
@@ -58,12 +58,12 @@ returns-then-not-more c =
 
 pub loop-h-smaller : goal.loop-h-smaller
 loop-h-smaller c =
-    let x = is_whole (sym c.message_at-found.ensures ∙ c.found-1.given.1) in
+    let x = is_whole (sym c.message_at-found.ensures ∙ c.in-Whole.is) in
     omega (arith, c.loop-h.invariant.0, x)
 
 pub loop-h-preserved : goal.loop-h-preserved
 loop-h-preserved c =
-    let x = is_whole (sym c.message_at-found.ensures ∙ c.found-1.given.1) in
+    let x = is_whole (sym c.message_at-found.ensures ∙ c.in-Whole.is) in
     rw c.counted-counts.ensures (
       steady-turn c.loop-h.invariant.0 x c.judge-v.result.done,
       c.note-changed.auto.0 ∙ c.loop-h.invariant.1,

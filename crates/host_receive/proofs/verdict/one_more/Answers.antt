@@ -7,4 +7,4 @@ counted : (n received : ℕ) → n ≡ (received + 1) % 65536 → n ≡ suc rece
 counted n received e = e ∙ rw (add-one received)
 
 pub returns : goal.returns
-returns c = rw (counted _ _ c.wrapping_add_u16.ensures)
+returns c = rw (counted _ _ c.wrapping_add_u16.ensures.value)

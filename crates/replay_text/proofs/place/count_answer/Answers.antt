@@ -10,7 +10,7 @@ returns c =
     c.place_of.ensures
     ∙ rw (
       c.start.ensures,
-      c.wrapping_add_u64-lines.ensures,
+      c.wrapping_add_u64-lines.ensures.value,
       c.with-totals.ensures,
       c.totals_in.ensures,
     )

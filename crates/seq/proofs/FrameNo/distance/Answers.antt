@@ -6,4 +6,4 @@ use Rattle.seq.proofs.Ring.{distance-unique}
 use Rattle.seq.proofs.FrameNo.distance.Goals as goal
 
 pub returns : goal.returns
-returns c = distance-unique frame_space (lit< tt) _ _ _ c.wrapping_sub_u16.ensures (search rules) (search rules)
+returns c = distance-unique frame_space (lit< tt) _ _ _ c.wrapping_sub_u16.ensures.value (search rules) (search rules)

@@ -6,4 +6,4 @@ use Rattle.seq.proofs.TransNo.advance.Goals as goal
 
 pub returns : goal.returns
 unfolding advance
-returns c = c.wrapping_add_u32.ensures
+returns c = c.wrapping_add_u32.ensures.value

@@ -5,7 +5,7 @@ use borrow.Author.Rules.{rules}
 use Rattle.wire_read.proofs.layout.Layout.data_bytes.Goals as goal
 
 pub returns-in-Refused : goal.returns-in-Refused
-returns-in-Refused c = rw c.enum_told-1.given.1 refl
+returns-in-Refused c = rw c.in-Refused.is refl
 
 pub returns-in-Counts : goal.returns-in-Counts
-returns-in-Counts c = rw c.self-1.given.1 refl
+returns-in-Counts c = rw c.in-Counts.is refl
