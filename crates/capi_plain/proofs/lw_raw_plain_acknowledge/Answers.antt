@@ -9,5 +9,5 @@ returns c =
       c.acknowledge-ack.ensures,
       c.plain_of_lem.ensures,
       c.answer_of-a.ensures,
-    ) at c.put_acknowledgement.ensures in
+    ) at (c.put_acknowledgement.ensures.value, c.put_acknowledgement.ensures.out_after) in
     record { value = whole.0; frame_after = whole.1 }

@@ -29,6 +29,6 @@ returns c =
     fed-part a.place.now (pair_of a.words.now) a.frame.now a.memory.now a.fragment.now
     (omega (arith, n)) _ _ _ c.take_in-got.ensures.value c.take_in-got.ensures.place_after.0 c.take_in-got.ensures.place_after.1 c.if-got.false in
     let left =
-    taking-left a.place.now a.frame.now a.fragment.now _ _ _ c.take_in-got.ensures
+    taking-left a.place.now a.frame.now a.fragment.now _ _ _ (c.take_in-got.ensures.value, c.take_in-got.ensures.place_after, c.take_in-got.ensures.frame_after)
     (λ (p f : List ℕ). p ∷ a.words.now ∷ f ∷ a.memory.now ∷ []) in let whole = (fed.0, (fed.1, left)) in
     record { value = whole.0; memory_after = whole.1; left_if_closed = whole.2 }

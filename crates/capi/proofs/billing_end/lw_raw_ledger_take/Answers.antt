@@ -5,5 +5,8 @@ use Rattle.capi.proofs.billing_end.lw_raw_ledger_take.Goals as goal
 
 pub returns : goal.returns
 returns c =
-    let whole = c.take.ensures in
-    record { value = whole.0; words_after = whole.1; left_if_refused = whole.2 }
+    record {
+      value = c.take.ensures.value;
+      words_after = c.take.ensures.words_after;
+      left_if_refused = c.take.ensures.left_if_refused;
+    }

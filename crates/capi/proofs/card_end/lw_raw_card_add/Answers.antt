@@ -5,5 +5,9 @@ use Rattle.capi.proofs.card_end.lw_raw_card_add.Goals as goal
 
 pub returns : goal.returns
 returns c =
-    let whole = c.add_message.ensures in
-    record { value = whole.0; words_after = whole.1; slots_after = whole.2; left_if_refused = whole.3 }
+    record {
+      value = c.add_message.ensures.value;
+      words_after = c.add_message.ensures.words_after;
+      slots_after = c.add_message.ensures.slots_after;
+      left_if_refused = c.add_message.ensures.left_if_refused;
+    }

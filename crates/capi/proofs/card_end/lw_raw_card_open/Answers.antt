@@ -5,5 +5,7 @@ use Rattle.capi.proofs.card_end.lw_raw_card_open.Goals as goal
 
 pub returns : goal.returns
 returns c =
-    let whole = c.open_card.ensures in
-    record { value = whole.0; words_after = whole.1 }
+    record {
+      value = c.open_card.ensures.value;
+      words_after = c.open_card.ensures.words_after;
+    }

@@ -5,5 +5,8 @@ use Rattle.capi.proofs.card_end.lw_raw_card_read.Goals as goal
 
 pub returns : goal.returns
 returns c =
-    let whole = c.read_acknowledgements.ensures in
-    record { value = whole.0; words_after = whole.1; left_if_refused = whole.2 }
+    record {
+      value = c.read_acknowledgements.ensures.value;
+      words_after = c.read_acknowledgements.ensures.words_after;
+      left_if_refused = c.read_acknowledgements.ensures.left_if_refused;
+    }

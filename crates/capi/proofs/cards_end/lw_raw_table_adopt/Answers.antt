@@ -5,5 +5,8 @@ use Rattle.capi.proofs.cards_end.lw_raw_table_adopt.Goals as goal
 
 pub returns : goal.returns
 returns c =
-    let whole = c.adopt.ensures in
-    record { value = whole.0; words_after = whole.1; left_if_refused = whole.2 }
+    record {
+      value = c.adopt.ensures.value;
+      words_after = c.adopt.ensures.words_after;
+      left_if_refused = c.adopt.ensures.left_if_refused;
+    }

@@ -5,5 +5,7 @@ use Rattle.capi.proofs.cards_end.lw_raw_table_open.Goals as goal
 
 pub returns : goal.returns
 returns c =
-    let whole = c.open.ensures in
-    record { value = whole.0; words_after = whole.1 }
+    record {
+      value = c.open.ensures.value;
+      words_after = c.open.ensures.words_after;
+    }

@@ -5,5 +5,8 @@ use Rattle.capi.proofs.cards_end.lw_raw_table_remove.Goals as goal
 
 pub returns : goal.returns
 returns c =
-    let whole = c.remove.ensures in
-    record { value = whole.0; words_after = whole.1; left_if_refused = whole.2 }
+    record {
+      value = c.remove.ensures.value;
+      words_after = c.remove.ensures.words_after;
+      left_if_refused = c.remove.ensures.left_if_refused;
+    }

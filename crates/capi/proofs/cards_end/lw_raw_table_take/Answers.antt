@@ -5,5 +5,8 @@ use Rattle.capi.proofs.cards_end.lw_raw_table_take.Goals as goal
 
 pub returns : goal.returns
 returns c =
-    let whole = c.take.ensures in
-    record { value = whole.0; pair_after = whole.1; left_if_refused = whole.2 }
+    record {
+      value = c.take.ensures.value;
+      pair_after = c.take.ensures.pair_after;
+      left_if_refused = c.take.ensures.left_if_refused;
+    }

@@ -5,5 +5,7 @@ use Rattle.capi.proofs.host_end.lw_raw_host_open.Goals as goal
 
 pub returns : goal.returns
 returns c =
-    let whole = c.open_host.ensures in
-    record { value = whole.0; words_after = whole.1 }
+    record {
+      value = c.open_host.ensures.value;
+      words_after = c.open_host.ensures.words_after;
+    }

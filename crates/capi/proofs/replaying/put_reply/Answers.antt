@@ -7,4 +7,4 @@ use Rattle.capi.proofs.replaying.put_reply.Goals as goal
 pub returns-in-Nothing : goal.returns-in-Nothing
 returns-in-Nothing c =
     let whole = (refl, refl) in
-    record { value = rw c.in-Nothing.is whole.0; answer_after = rw c.in-Nothing.is whole.1 }
+    record { value = rw c.in-Nothing.is whole.0; answer_after = whole.1 }

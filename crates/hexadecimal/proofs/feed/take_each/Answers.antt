@@ -27,7 +27,7 @@ loop-at-init c = walked_start _ _ _
 pub returns-then-c-eq10 : goal.returns-then-c-eq10
 returns-then-c-eq10 c =
     let whole = (walked-newline c.loop-at.invariant c.loop-at-test.true c.if-c-eq10.true) in
-    record { value = rw c.taken_of.ensures whole.0; frame_after = rw c.taken_of.ensures whole.1 }
+    record { value = rw c.taken_of.ensures whole.0; frame_after = whole.1 }
 
 pub loop-at-preserved-then-d-gt15 : goal.loop-at-preserved-then-d-gt15
 loop-at-preserved-then-d-gt15 c =
@@ -62,4 +62,4 @@ loop-at-preserved c =
 pub returns : goal.returns
 returns c =
     let whole = (walked_end c.loop-at.invariant c.loop-at-test.false) in
-    record { value = rw c.taken_of-2.ensures whole.0; frame_after = rw c.taken_of-2.ensures whole.1 }
+    record { value = rw c.taken_of-2.ensures whole.0; frame_after = whole.1 }

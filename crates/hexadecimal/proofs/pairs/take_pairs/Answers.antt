@@ -10,7 +10,7 @@ use Rattle.hexadecimal.proofs.pairs.take_pairs.Goals as goal
 pub returns-then-line : goal.returns-then-line
 returns-then-line c =
     let whole = (left-waiting _ _ _ _ c.if-line.true) in
-    record { value = rw c.taken_of.ensures whole.0; frame_after = rw c.taken_of.ensures whole.1 }
+    record { value = rw c.taken_of.ensures whole.0; frame_after = whole.1 }
 
 pub loop-len-init : goal.loop-len-init
 loop-len-init c = left-start _ _ _ _ _ c.if-line.false c.pairs_until-until.ensures
@@ -21,7 +21,7 @@ returns-then-high-gt15 c =
     (looked-up _ _ _ c.digit_values-values.ensures c.digit_value-high.ensures)
     (looked-up _ _ _ c.digit_values-values.ensures c.digit_value-low.ensures)
     c.if-high-gt15.true) in
-    record { value = rw c.taken_of-then-high-gt15.ensures whole.0; frame_after = rw c.taken_of-then-high-gt15.ensures whole.1 }
+    record { value = rw c.taken_of-then-high-gt15.ensures whole.0; frame_after = whole.1 }
 
 pub returns-then-low-gt15 : goal.returns-then-low-gt15
 returns-then-low-gt15 c =
@@ -29,7 +29,7 @@ returns-then-low-gt15 c =
     (looked-up _ _ _ c.digit_values-values.ensures c.digit_value-high.ensures)
     (looked-up _ _ _ c.digit_values-values.ensures c.digit_value-low.ensures)
     c.if-high-gt15.false c.if-low-gt15.true) in
-    record { value = rw c.taken_of-then-low-gt15.ensures whole.0; frame_after = rw c.taken_of-then-low-gt15.ensures whole.1 }
+    record { value = rw c.taken_of-then-low-gt15.ensures whole.0; frame_after = whole.1 }
 
 pub loop-len-preserved : goal.loop-len-preserved
 loop-len-preserved c =
@@ -41,4 +41,4 @@ loop-len-preserved c =
 pub returns : goal.returns
 returns c =
     let whole = (left-done c.loop-len.invariant c.loop-len-test.false) in
-    record { value = rw c.taken_of-2.ensures whole.0; frame_after = rw c.taken_of-2.ensures whole.1 }
+    record { value = rw c.taken_of-2.ensures whole.0; frame_after = whole.1 }

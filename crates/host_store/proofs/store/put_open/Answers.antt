@@ -24,5 +24,5 @@ pub returns : goal.returns
 returns c =
     let whole = put-at _ _ _ _ _ _ _ (pair_of c.args.words.now) _ c.entry_at-o.ensures c.if-o-eq0.false
     c.number_at-number.ensures
-    c.open_bytes-bytes.ensures c.put_line.ensures in
+    c.open_bytes-bytes.ensures (c.put_line.ensures.value, c.put_line.ensures.out_after) in
     record { value = whole.0; out_after = whole.1 }

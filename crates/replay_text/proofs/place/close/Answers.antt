@@ -12,4 +12,4 @@ returns-then-place-ne0 c =
 pub returns : goal.returns
 returns c =
     let whole = (closing-open c.args.place.now c.if-place-ne0.false) in
-    record { value = rw (c.place_of.ensures, c.line_in-line.ensures, c.totals_in-totals.ensures) whole.0; place_after = rw (c.place_of.ensures, c.line_in-line.ensures, c.totals_in-totals.ensures) whole.1 }
+    record { value = rw (c.place_of.ensures, c.line_in-line.ensures, c.totals_in-totals.ensures) whole.0; place_after = whole.1 }
