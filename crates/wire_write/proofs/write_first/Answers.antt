@@ -30,7 +30,7 @@ put_message-requires c =
     let n = length a.payload.now in
     let room : room_for a.slot.now (34 + n) ≡ true = sym c.has_room.ensures ∙ not-false _ c.if-not-has_room.false-raw in
     let fits : 34 + n ≤ length a.slot.now = room-slot a.slot.now (34 + n) room in
-    omega (arith, c.write.auto.0)
+    omega (arith, c.write.auto.memory)
 
 pub returns : goal.returns
 unfolding carrying

@@ -49,7 +49,7 @@ put_message-requires c =
     let size = c.header_behind-at.result + 24 + length a.payload.now in
     let room : room_for a.slot.now size ≡ true = sym c.has_room.ensures ∙ not-false _ c.if-not-has_room.false-raw in
     let fits : size ≤ length a.slot.now = room-slot a.slot.now size room in
-    omega (arith, c.write.auto.0, c.set_follows.auto.0)
+    omega (arith, c.write.auto.memory, c.set_follows.auto.slot)
 
 pub returns : goal.returns
 unfolding carrying

@@ -1,0 +1,19 @@
+-- `logwhisker::seal_frame`: sealing in place, on words whose number their type gives.
+-- Assumes nothing.
+use mathlib.Core.Path.{◌≡◌, ◌∙◌, ap}
+use native.Mathlib.Omega.{arith}
+use lib.ListN.{length}
+use borrow.Author.Tests.{eq-eqb}
+use Rattle.card_build.specs.declared.number.SealedFrame.{SealedFrame}
+use Rattle.card_build.specs.Numbering.{sealed_in}
+use borrow.Author.Rules.{rules}
+use Rattle.logwhisker.proofs.seal_frame.Goals as goal
+
+pub returns : goal.returns
+unfolding sealed_in
+returns c =
+    let e : length c.args.words.now ≡ 85 = omega arith in let whole = (
+      ap (λ (s : SealedFrame). s.refusal) c.seal_frame.ensures.value ∙ rw (eq-eqb _ 85 e),
+      (ap (λ (s : SealedFrame). s.number) c.seal_frame.ensures.value ∙ rw (eq-eqb _ 85 e), (c.seal_frame.ensures.steps.0 e, c.seal_frame.ensures.steps.1)),
+    ) in
+    record { refusal_value = whole.0; number_value = whole.1; words_after = whole.2; left_if_refused = whole.3 }
