@@ -100,7 +100,7 @@ use Rattle.delivery.proofs.Lists.Late.{
   ran,
   book_after,
   Premises,
-  none_left,
+  none_left_lem,
   first-copy,
   now,
   lowest,
@@ -223,7 +223,7 @@ run-in-time n h few = go (whole specified specified-in-turn true (ReadRun n) n _
         record {
           premises = p;
           is_run = ap (λ (b : Book). get_elem? b.acks_due n) r.2 ∙ run-due n;
-          none_left = (none_left (late_run n) n r.0 (round_acks n ++ (run_of n ∷ [])) r.1 p r.2).1;
+          none_left = (none_left_lem (late_run n) n r.0 (round_acks n ++ (run_of n ∷ [])) r.1 p r.2).1;
         }
 
 -- 255 frames are acknowledged from frame 0 on, 32,768 numbers late.
