@@ -1,12 +1,9 @@
 -- `host_words::describe::describe` stores the head, and then the open ones in turn.
 -- Assumes nothing.
 use mathlib.Core.Path.{refl, sym}
-use Prim.Native.Nat.{◌-◌}
 use native.Mathlib.Omega.{arith}
 use lib.Dec.{lit≤}
-use Rattle.host_words.specs.Words.{pair_of}
-use Rattle.host_words.proofs.describe.Filling.{Storing, storing-start, storing-turn, storing-done}
-use borrow.Author.Rules.{rules}
+use Rattle.host_words.proofs.describe.Filling.{storing-start, storing-turn, storing-done}
 use Rattle.host_words.proofs.describe.describe.Goals as goal
 
 pub slice_bounds-put_head-end : goal.slice_bounds-put_head-end

@@ -5,7 +5,6 @@ use Prim.Native.Nat.{◌%◌}
 use native.Mathlib.Omega.{arith}
 use Rattle.host_words.specs.Updating.{with_entry}
 use Rattle.host_words.proofs.update.Updating.{holds-entry}
-use borrow.Author.Rules.{rules}
 use Rattle.host_words.proofs.update.put_entry.Goals as goal
 
 pub returns : goal.returns

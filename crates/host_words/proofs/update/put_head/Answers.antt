@@ -4,7 +4,6 @@ use mathlib.Core.Path.{◌≡◌, ◌∙◌}
 use native.Mathlib.Omega.{arith}
 use Rattle.host_words.specs.Updating.{with_head}
 use Rattle.host_words.proofs.update.Updating.{holds-head}
-use borrow.Author.Rules.{rules}
 use Rattle.host_words.proofs.update.put_head.Goals as goal
 
 pub returns : goal.returns
