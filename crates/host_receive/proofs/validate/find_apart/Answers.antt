@@ -1,22 +1,10 @@
 -- `host_receive::validate::find_apart` judges message by message, as the definition does, with no entry kept.
 -- Assumes nothing.
-use Rattle.std.proofs.Common.{◌+◌, ◌-◌, [], length, sym, ap, ◌∙◌, inl, inr, arith, rules}
-use borrow.Author.Tests.{not-true, not-false}
+use Rattle.std.proofs.Common.{[], sym, ap, ◌∙◌, inl, inr, arith}
 use Rattle.wire_read.proofs.Finding.{is_whole}
 use Rattle.host_receive.specs.declared.validate.Validated.{Validated}
 use Rattle.host_receive.proofs.validate.Overlay.{current-words, need-not}
-use Rattle.host_receive.proofs.validate.Walk.{
-  validated-long,
-  Steady,
-  steady-start,
-  steady-turn,
-  Walking,
-  walking_start,
-  walking-past,
-  walking-stops,
-  walking-ends,
-  walking-apart,
-}
+use Rattle.host_receive.proofs.validate.Walk.{validated-long, steady-start, steady-turn, walking_start, walking-past, walking-stops, walking-ends, walking-apart}
 use Rattle.host_receive.proofs.validate.find_apart.Goals as goal
 
 pub returns-then-f-gt-FRAME_MOST : goal.returns-then-f-gt-FRAME_MOST
@@ -60,7 +48,7 @@ returns-then-not-more c =
     let q = rw c.counted-counts.ensures at c.passed.ensures in
     inr (q
     ∙ walking-ends c.loop-h.invariant.1 x (need-not c.args.words.now [] _ _ clear) (c.entry-o.ensures ∙ current-words c.args.words.now [] _ _ clear)
-    c.judge-v.ensures c.if-v-ne0.false (not-true _ c.if-not-more.true-raw))
+    c.judge-v.ensures c.if-v-ne0.false c.if-not-more.true)
 
 pub loop-h-smaller : goal.loop-h-smaller
 loop-h-smaller c =
@@ -74,6 +62,6 @@ loop-h-preserved c =
     rw c.counted-counts.ensures (
       steady-turn c.loop-h.invariant.0 x c.judge-v.result.done,
       walking-apart c.loop-h.invariant.1 x (need-not c.args.words.now [] _ _ clear) (c.entry-o.ensures ∙ current-words c.args.words.now [] _ _ clear)
-          c.judge-v.ensures c.if-v-ne0.false _ (not-false _ c.if-not-more.false-raw)
+          c.judge-v.ensures c.if-v-ne0.false _ c.if-not-more.false
           (λ z. omega (arith, z)) c.marked-changed.ensures,
     )

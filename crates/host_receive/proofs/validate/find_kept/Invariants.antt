@@ -1,20 +1,7 @@
 -- `host_receive::validate::find_kept` judges message by message, as the definition does.
 -- Assumes nothing.
-use Rattle.std.proofs.Common.{◌≡◌, ◌+◌, ◌-◌, length, sym, refl, ◌∙◌, arith, rules}
-use borrow.Author.Tests.{not-true, not-false}
-use Rattle.wire_read.proofs.Finding.{is_whole}
-use Rattle.host_receive.proofs.validate.Walk.{
-  validated-long,
-  Steady,
-  steady-start,
-  steady-turn,
-  Walking,
-  walking_start,
-  walking-past,
-  walking-stops,
-  walking-ends,
-  walking_on,
-}
+use Rattle.std.proofs.Common.{◌≡◌, ◌+◌, ◌-◌, length}
+use Rattle.host_receive.proofs.validate.Walk.{Steady, Walking}
 use Rattle.host_receive.proofs.validate.find_kept.Given as goal
 
 abbrev pub invariant-loop-h : goal.invariant-loop-h
