@@ -24,6 +24,7 @@ pub returns-then-head-eq0 : goal.returns-then-head-eq0
 returns-then-head-eq0 c =
     let a = c.args in
     let p = pair_of a.words.now in
+    -- past the tests before: the words hold a pair, and the heading is not refused
     let long = c.if-words-ne-WORDS.false in
     let good =
     framed p a.f.now _ _ _ c.own-own.ensures c.peer-peer.ensures c.heading_refusal-stop.ensures c.if-stop-ne0.false
@@ -36,6 +37,7 @@ pub returns-then-not-is_new : goal.returns-then-not-is_new
 returns-then-not-is_new c =
     let a = c.args in
     let p = pair_of a.words.now in
+    -- past the tests before: the words hold a pair, and the heading is not refused
     let long = c.if-words-ne-WORDS.false in
     let good =
     framed p a.f.now _ _ _ c.own-own.ensures c.peer-peer.ensures c.heading_refusal-stop.ensures c.if-stop-ne0.false
@@ -61,6 +63,7 @@ pub returns : goal.returns
 returns c =
     let a = c.args in
     let p = pair_of a.words.now in
+    -- past the tests before: the words hold a pair, and the heading is not refused
     let long = c.if-words-ne-WORDS.false in
     let good =
     framed p a.f.now _ _ _ c.own-own.ensures c.peer-peer.ensures c.heading_refusal-stop.ensures c.if-stop-ne0.false

@@ -34,7 +34,8 @@ returns-then-v-ne0 c =
     let x = is_whole (sym c.message_at-found.ensures ∙ c.in-Whole.is) in
     let clear = sym c.is_marked.ensures ∙ c.if-is_marked.false in
     inr (c.refused_at-then-v-ne0.ensures
-    ∙ walking-stops c.loop-h.invariant.1 x (need-not c.args.words.now [] _ _ clear) (c.entry-o.ensures ∙ current-words c.args.words.now [] _ _ clear)
+    ∙ walking-stops c.loop-h.invariant.1 x
+    (need-not c.args.words.now [] _ _ clear) (c.entry-o.ensures ∙ current-words c.args.words.now [] _ _ clear)
     c.judge-v.ensures c.if-v-ne0.true)
 
 pub counted-counts-requires : goal.counted-counts-requires
@@ -47,7 +48,8 @@ returns-then-not-more c =
     let clear = sym c.is_marked.ensures ∙ c.if-is_marked.false in
     let q = rw c.counted-counts.ensures at c.passed.ensures in
     inr (q
-    ∙ walking-ends c.loop-h.invariant.1 x (need-not c.args.words.now [] _ _ clear) (c.entry-o.ensures ∙ current-words c.args.words.now [] _ _ clear)
+    ∙ walking-ends c.loop-h.invariant.1 x
+    (need-not c.args.words.now [] _ _ clear) (c.entry-o.ensures ∙ current-words c.args.words.now [] _ _ clear)
     c.judge-v.ensures c.if-v-ne0.false c.if-not-more.true)
 
 pub loop-h-smaller : goal.loop-h-smaller
@@ -61,7 +63,8 @@ loop-h-preserved c =
     let clear = sym c.is_marked.ensures ∙ c.if-is_marked.false in
     rw c.counted-counts.ensures (
       steady-turn c.loop-h.invariant.0 x c.judge-v.result.done,
-      walking-apart c.loop-h.invariant.1 x (need-not c.args.words.now [] _ _ clear) (c.entry-o.ensures ∙ current-words c.args.words.now [] _ _ clear)
+      walking-apart c.loop-h.invariant.1 x
+          (need-not c.args.words.now [] _ _ clear) (c.entry-o.ensures ∙ current-words c.args.words.now [] _ _ clear)
           c.judge-v.ensures c.if-v-ne0.false _ c.if-not-more.false
           (λ z. omega (arith, z)) c.marked-changed.ensures,
     )

@@ -7,7 +7,8 @@ use Rattle.host_receive.proofs.validate.find_kept.Given as goal
 abbrev pub invariant-loop-h : goal.invariant-loop-h
 invariant-loop-h l = Steady l.f l.at l.counts.messages l.counts.bytes l.counts.completed
     × (length l.kept ≡ length l.initial.kept)
-    × Walking l.words l.kept l.f l.size l.lowest.0 l.closed l.changed l.counts.messages l.counts.bytes l.counts.completed l.at
+    × Walking l.words l.kept l.f l.size l.lowest.0 l.closed l.changed l.counts.messages l.counts.bytes
+    l.counts.completed l.at
 
 abbrev pub decreases-loop-h : goal.decreases-loop-h
 decreases-loop-h l = length l.f + 18 - l.at

@@ -19,8 +19,10 @@ pub slice_bounds-put_open-end : goal.slice_bounds-put_open-end
 slice_bounds-put_open-end c = sym c.loop-j.invariant.long
 
 pub put_open-at-requires : goal.put_open-at-requires
-put_open-at-requires c =
-    (omega (arith, c.loop-j.invariant.long, c.loop-j.invariant.low, c.loop-j-test.true), omega (arith, c.loop-j.invariant.low, c.loop-j-test.true))
+put_open-at-requires c = (
+  omega (arith, c.loop-j.invariant.long, c.loop-j.invariant.low, c.loop-j-test.true),
+  omega (arith, c.loop-j.invariant.low, c.loop-j-test.true),
+)
 
 pub overflow_add-j : goal.overflow_add-j
 overflow_add-j c = omega (arith, c.loop-j-test.true)

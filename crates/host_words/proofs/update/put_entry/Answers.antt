@@ -16,6 +16,6 @@ returns c =
     ∙ rw (c.put.ensures, c.of_quarters-counts.ensures, c.of_halves-terms.ensures) in record {
       w_after = e;
       holds_entry = λ l. rw e
-          (holds-entry a.w.now (a.number.0 % 32) a.o (omega arith) (omega (arith, c.well_formed.1)) (omega (arith, c.well_formed.1))
-          (omega (arith, c.well_formed.1)) (omega (arith, c.well_formed.1)) l);
+          (holds-entry a.w.now (a.number.0 % 32) a.o (omega arith) (omega (arith, c.well_formed.1))
+          (omega (arith, c.well_formed.1)) (omega (arith, c.well_formed.1)) (omega (arith, c.well_formed.1)) l);
     }
