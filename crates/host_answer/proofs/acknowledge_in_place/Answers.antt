@@ -1,7 +1,6 @@
 -- `host_answer::acknowledge_in_place`: by the IDs that the words hold.
 -- Assumes nothing.
 use mathlib.Core.Path.{◌∙◌}
-use borrow.Author.Rules.{rules}
 use Rattle.host_answer.proofs.acknowledge_in_place.Goals as goal
 
 pub returns : goal.returns

@@ -1,7 +1,6 @@
 -- `host_answer::acknowledge_words`: of the answer that the words give.
 -- Assumes nothing.
 use mathlib.Core.Path.{◌∙◌}
-use borrow.Author.Rules.{rules}
 use Rattle.host_answer.proofs.acknowledge_words.Goals as goal
 
 pub returns : goal.returns

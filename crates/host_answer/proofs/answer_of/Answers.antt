@@ -1,7 +1,6 @@
 -- `host_answer::answer_of`: by its kind.
 -- Assumes nothing.
 use borrow.Author.Tests.{eq-eqb, ne_eqb}
-use borrow.Author.Rules.{rules}
 use Rattle.host_answer.proofs.answer_of.Goals as goal
 
 pub returns-then-kind-eq1 : goal.returns-then-kind-eq1

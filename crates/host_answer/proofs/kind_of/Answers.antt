@@ -1,6 +1,5 @@
 -- `host_answer::kind_of`: each kind of answer has its number.
 -- Assumes nothing.
-use borrow.Author.Rules.{rules}
 use Rattle.host_answer.proofs.kind_of.Goals as goal
 
 pub returns-in-Accepted : goal.returns-in-Accepted

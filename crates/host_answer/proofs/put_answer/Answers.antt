@@ -1,6 +1,5 @@
 -- `host_answer::put_answer`: the words of each case.
 -- Assumes nothing.
-use borrow.Author.Rules.{rules}
 use Rattle.host_answer.proofs.put_answer.Goals as goal
 
 pub returns-in-Accepted : goal.returns-in-Accepted

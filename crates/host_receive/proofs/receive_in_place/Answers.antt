@@ -1,26 +1,11 @@
 -- `host_receive::receive_in_place`: the heading's refusals, then the flag, then where the number lies.
 -- Assumes nothing.
-use Rattle.std.proofs.Common.{◌≡◌, length, sym, refl, ◌∙◌, rules}
-use borrow.Author.Tests.{not-true, not-false}
-use Rattle.wire.specs.Reading.{addressed}
-use Rattle.wire.proofs.Reading.{Framed}
-use Rattle.host.specs.declared.Pair.{Pair}
+use Rattle.std.proofs.Common.{sym, refl, ◌∙◌}
 use Rattle.host_words.specs.Words.{pair_of}
 use Rattle.host_words.proofs.Words.{next-lt}
 use Rattle.host_receive.proofs.number.Window.{not_new, new_in}
 use Rattle.host_receive.proofs.Awaiting.{stays, awaited, refused-heading, framed, none-there, answered-by-number}
 use Rattle.host_receive.proofs.receive_in_place.Goals as goal
-
-  abbrev lent : Pair
-  lent = pair_of start.args.words.now
-
-  long : length start.args.words.now ≡ 67
-  long = headed.before.before.before.before.before.if1.left
-
-  good : Framed (addressed lent.own lent.peer start.args.f.now) start.args.f.now
-  good =
-      framed lent start.args.f.now _ _ _ headed.before.before.before.own.ensures
-      headed.before.peer.ensures headed.heading-refusal.ensures e.before.if2.left
 
 pub returns-then-words-ne-WORDS : goal.returns-then-words-ne-WORDS
 returns-then-words-ne-WORDS c =
@@ -37,20 +22,31 @@ returns-then-stop-ne0 c =
 
 pub returns-then-head-eq0 : goal.returns-then-head-eq0
 returns-then-head-eq0 c =
-    let a = (start c).args in
+    let a = c.args in
+    let p = pair_of a.words.now in
+    -- past the tests before: the words hold a pair, and the heading is not refused
+    let long = c.if-words-ne-WORDS.false in
+    let good =
+    framed p a.f.now _ _ _ c.own-own.ensures c.peer-peer.ensures c.heading_refusal-stop.ensures c.if-stop-ne0.false
+    in
     let s = stays _ _ _ _
-    (none-there (lent c) a.f.now a.memory.now (good c) _ c.frame_header-head.ensures c.if-head-eq0.true) in
-    (λ l. s, λ n. absurd (n (long c)), λ q. refl)
+    (none-there p a.f.now a.memory.now good _ c.frame_header-head.ensures c.if-head-eq0.true) in
+    (λ l. s, λ n. absurd (n long), λ q. refl)
 
 pub returns-then-not-is_new : goal.returns-then-not-is_new
 returns-then-not-is_new c =
     let a = c.args in
     let p = pair_of a.words.now in
-    let w = awaited p a.f.now (good c) _ c.frame_header-head.ensures c.if-head-eq0.false _
+    -- past the tests before: the words hold a pair, and the heading is not refused
+    let long = c.if-words-ne-WORDS.false in
+    let good =
+    framed p a.f.now _ _ _ c.own-own.ensures c.peer-peer.ensures c.heading_refusal-stop.ensures c.if-stop-ne0.false
+    in
+    let w = awaited p a.f.now good _ c.frame_header-head.ensures c.if-head-eq0.false _
     (rw c.next-next.ensures at c.distance-d.ensures) (next-lt a.words.now)
-    (rw c.marks-marks.ensures at c.marks-marks.type-inv) in
+    (rw c.marks-marks.ensures at c.marks-marks.type_inv) in
     let New-is = rw c.marks-marks.ensures at c.is_new.ensures in
-    let old = not_new p.marks _ (sym New-is ∙ not-true _ c.if-not-is_new.true-raw) in
+    let old = not_new p.marks _ (sym New-is ∙ c.if-not-is_new.true) in
     let s = stays _ _ _ _ (answered-by-number p a.f.now a.memory.now _ _ w old) in (
       λ l. (
         s.0,
@@ -59,18 +55,23 @@ returns-then-not-is_new c =
             ∙ rw (c.own-own.ensures, c.peer-peer.ensures, c.marks-marks.ensures)
             s.2,
       ),
-      λ n. absurd (n (long c)),
+      λ n. absurd (n long),
       λ q. refl,
     )
 
 pub returns : goal.returns
 returns c =
-    let a = (start c).args in
-    let p = lent c in
-    let w = awaited p a.f.now (good c) _ c.frame_header-head.ensures c.if-head-eq0.false _
+    let a = c.args in
+    let p = pair_of a.words.now in
+    -- past the tests before: the words hold a pair, and the heading is not refused
+    let long = c.if-words-ne-WORDS.false in
+    let good =
+    framed p a.f.now _ _ _ c.own-own.ensures c.peer-peer.ensures c.heading_refusal-stop.ensures c.if-stop-ne0.false
+    in
+    let w = awaited p a.f.now good _ c.frame_header-head.ensures c.if-head-eq0.false _
     (rw c.next-next.ensures at c.distance-d.ensures) (next-lt a.words.now)
-    (rw c.marks-marks.ensures at c.marks-marks.type-inv) in
+    (rw c.marks-marks.ensures at c.marks-marks.type_inv) in
     let New-is = rw c.marks-marks.ensures at c.is_new.ensures in
-    let lies = new_in p.marks _ (sym New-is ∙ not-false _ c.if-not-is_new.false-raw) in
-    let k = c.take_in.ensures _ w lies.0 lies.1 (long c) in
-    (λ l. (k.0, k.1, k.2), λ n. absurd (n (long c)), k.3)
+    let lies = new_in p.marks _ (sym New-is ∙ c.if-not-is_new.false) in
+    let k = c.take_in.ensures _ w lies.0 lies.1 long in
+    (λ l. (k.0, k.1, k.2), λ n. absurd (n long), k.3)

@@ -1,6 +1,6 @@
 -- `host_receive::take_in`: refused and nothing changed, or both passes.
 -- Assumes nothing.
-use Rattle.std.proofs.Common.{sym, refl, ap, ◌∙◌, true≢false, rules}
+use Rattle.std.proofs.Common.{sym, refl, ap, ◌∙◌, true≢false}
 use Rattle.host.specs.Host.{Received}
 use Rattle.host_words.specs.Words.{pair_of}
 use Rattle.host_receive.proofs.Awaiting.{stays, new-refused, new-taken}
@@ -25,7 +25,7 @@ returns c =
     let a = c.args in
     let n = new-taken (pair_of a.words.now) a.f.now a.memory.now _ d w new clear _
     c.validate-found.ensures c.if-found-ne0.false in (
-      c.accept-run.ensures.words_after.1 (c.apply.auto.0 ∙ l)
+      c.accept-run.ensures.accepts (c.apply.auto.words ∙ l)
           ∙ rw (c.apply.ensures.0 l).0 (sym (ap (λ (r : Received). r.pair) n)),
       (c.apply.ensures.0 l).1 ∙ sym (ap (λ (r : Received). r.memory) n),
       rw (c.accept-run.ensures.value, (c.apply.ensures.0 l).0) (sym (ap (λ (r : Received). r.answer) n)),

@@ -1,6 +1,5 @@
 -- `host_words::entry`: the two words of the entry.
 -- Assumes nothing.
-use borrow.Author.Rules.{rules}
 use Rattle.host_words.proofs.entry.Goals as goal
 
 pub returns : goal.returns

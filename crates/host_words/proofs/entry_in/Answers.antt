@@ -1,6 +1,5 @@
 -- `host_words::entry_in`: each field is the definition's.
 -- Assumes nothing.
-use borrow.Author.Rules.{rules}
 use Rattle.host_words.proofs.entry_in.Goals as goal
 
 pub returns : goal.returns

@@ -1,7 +1,6 @@
 -- `host_words::lowest` reads what the words hold.
 -- Assumes nothing.
 use Rattle.host_words.specs.Words.{pair_of}
-use borrow.Author.Rules.{rules}
 use Rattle.host_words.proofs.lowest.Goals as goal
 
 pub returns : goal.returns

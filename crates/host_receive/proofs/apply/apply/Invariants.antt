@@ -1,8 +1,7 @@
 -- `host_receive::apply::apply` takes effect message by message, as the definition does.
 -- Assumes nothing.
-use Rattle.std.proofs.Common.{◌-◌, sym, refl, ◌∙◌, arith, rules}
-use Rattle.wire_read.proofs.Finding.{is_whole}
-use Rattle.host_receive.proofs.apply.Walk.{Applying, applying-start, applying-past, applying-done, applying-turn}
+use Rattle.std.proofs.Common.{◌-◌}
+use Rattle.host_receive.proofs.apply.Walk.{Applying}
 use Rattle.host_receive.proofs.apply.apply.Given as goal
 
 abbrev pub invariant-loop-i : goal.invariant-loop-i

@@ -1,6 +1,6 @@
 -- `host_receive::apply::write_message`: the data, and then the completion where it is due.
 -- Assumes nothing.
-use Rattle.std.proofs.Common.{◌∙◌, rules}
+use Rattle.std.proofs.Common.{◌∙◌}
 use Rattle.wire.specs.Format.{carrying}
 use Rattle.host.specs.Host.{effect}
 use Rattle.host_receive.proofs.apply.write_message.Goals as goal

@@ -1,6 +1,6 @@
 -- `host_receive::message::first_refusal`: the terms first, then the addresses.
 -- Assumes nothing.
-use Rattle.std.proofs.Common.{◌≡◌, ℕ, ◌∙◌, rules}
+use Rattle.std.proofs.Common.{◌≡◌, ℕ, ◌∙◌}
 use Rattle.host.specs.Terms.{first_of}
 use Rattle.host_receive.proofs.message.first_refusal.Goals as goal
 

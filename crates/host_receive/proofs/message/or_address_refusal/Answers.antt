@@ -1,6 +1,6 @@
 -- `host_receive::message::or_address_refusal`: each test is the definition's.
 -- Assumes nothing.
-use Rattle.std.proofs.Common.{◌≡◌, ℕ, ◌+◌, ◌<◌, ◌≤◌, ◌≢◌, rules, le-ltb, lt-ltb, eq-eqb, ne_eqb}
+use Rattle.std.proofs.Common.{◌≡◌, ℕ, ◌+◌, ◌<◌, ◌≤◌, ◌≢◌, le-ltb, lt-ltb, eq-eqb, ne_eqb}
 use Rattle.wire.specs.declared.MessageHeader.{MessageHeader}
 use Rattle.host.specs.Terms.{first_of, address_refusal}
 use Rattle.host_receive.proofs.message.or_address_refusal.Goals as goal

@@ -1,6 +1,6 @@
 -- `host_receive::message::terms_refusal`: the tests in the definition's order.
 -- Assumes nothing.
-use Rattle.std.proofs.Common.{◌≡◌, ℕ, ◌<◌, ◌≤◌, Bool, cond, not, ◌&&◌, eqb, ltb, rules, le-leb}
+use Rattle.std.proofs.Common.{◌≡◌, ℕ, ◌<◌, ◌≤◌, Bool, cond, not, ◌&&◌, eqb, ltb, le-leb}
 use borrow.Author.Tests.{lt-leb}
 use Rattle.bitmap.specs.Marks.{mark}
 use Rattle.wire.specs.declared.MessageHeader.{MessageHeader}
@@ -33,20 +33,20 @@ returns-then-is_closed c =
 pub returns-then-not-is_same : goal.returns-then-not-is_same
 returns-then-not-is_same c =
     let a = c.args in
-    rw (c.if-is_closed.false, c.if-not-is_same.true-raw) at
+    rw (c.if-is_closed.false, c.if-not-is_same.true) at
     (inside a.d a.closed a.o a.h a.len _ _ _ c.is_marked-is_closed.ensures
     c.has_same_terms-is_same.ensures c.is_bare_with_data-carries_data.ensures c.if-d-ge32.false)
 
 pub returns-then-carries_data : goal.returns-then-carries_data
 returns-then-carries_data c =
     let a = c.args in
-    rw (c.if-is_closed.false, c.if-not-is_same.false-raw, c.if-carries_data.true) at
+    rw (c.if-is_closed.false, c.if-not-is_same.false, c.if-carries_data.true) at
     (inside a.d a.closed a.o a.h a.len _ _ _ c.is_marked-is_closed.ensures
     c.has_same_terms-is_same.ensures c.is_bare_with_data-carries_data.ensures c.if-d-ge32.false)
 
 pub returns : goal.returns
 returns c =
     let a = c.args in
-    rw (c.if-is_closed.false, c.if-not-is_same.false-raw, c.if-carries_data.false) at
+    rw (c.if-is_closed.false, c.if-not-is_same.false, c.if-carries_data.false) at
     (inside a.d a.closed a.o a.h a.len _ _ _ c.is_marked-is_closed.ensures
     c.has_same_terms-is_same.ensures c.is_bare_with_data-carries_data.ensures c.if-d-ge32.false)

@@ -1,6 +1,6 @@
 -- `host_receive::number::is_new`: in the window, and not marked.
 -- Assumes nothing.
-use Rattle.std.proofs.Common.{◌≡◌, true, false, sym, ◌∙◌, rules, le-leb}
+use Rattle.std.proofs.Common.{◌≡◌, true, false, sym, ◌∙◌, le-leb}
 use borrow.Author.Tests.{lt-leb}
 use Rattle.bitmap.specs.Marks.{mark}
 use Rattle.host_receive.specs.Numbering.{is_new}

@@ -1,6 +1,6 @@
 -- `host_receive::refuse::answer_by_number`: the layout first, then where the number lies.
 -- Assumes nothing.
-use Rattle.std.proofs.Common.{◌∙◌, rules, le-ltb, lt-ltb, eq-eqb, ne_eqb, le-leb}
+use Rattle.std.proofs.Common.{◌∙◌, le-ltb, lt-ltb, eq-eqb, ne_eqb, le-leb}
 use borrow.Author.Tests.{lt-leb}
 use Rattle.host_receive.specs.Refusing.{number_answered}
 use Rattle.host_receive.proofs.refuse.answer_by_number.Goals as goal

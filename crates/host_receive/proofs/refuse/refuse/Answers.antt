@@ -1,6 +1,6 @@
 -- `host_receive::refuse::refuse`: the layout's refusal, or the message's.
 -- Assumes nothing.
-use Rattle.std.proofs.Common.{◌∙◌, rules, eq-eqb, ne_eqb}
+use Rattle.std.proofs.Common.{◌∙◌, eq-eqb, ne_eqb}
 use Rattle.host_receive.specs.Refusing.{refused_with}
 use Rattle.host_receive.proofs.refuse.refuse.Goals as goal
 

@@ -1,6 +1,6 @@
 -- `host_receive::run::run_at`: behind or not.
 -- Assumes nothing.
-use Rattle.std.proofs.Common.{arith, rules, le-leb}
+use Rattle.std.proofs.Common.{arith, le-leb}
 use borrow.Author.Tests.{lt-leb}
 use Rattle.host_receive.specs.Counting.{run_at}
 use Rattle.host_receive.proofs.run.run_at.Goals as goal

@@ -1,6 +1,6 @@
 -- `host_receive::run::run_behind`: the sum fits 32 bits, and the ones are those of the marks.
 -- Assumes nothing.
-use Rattle.std.proofs.Common.{arith, rules}
+use Rattle.std.proofs.Common.{arith}
 use Rattle.bitmap.proofs.Marks.{ones-le}
 use Rattle.host_receive.specs.Counting.{run_behind}
 use Rattle.host_receive.proofs.run.run_behind.Goals as goal

@@ -1,6 +1,6 @@
 -- `host_receive::run::run_within`: the ones of the marks from its own on.
 -- Assumes nothing.
-use Rattle.std.proofs.Common.{min, ap, ◌∙◌, rules}
+use Rattle.std.proofs.Common.{min, ap, ◌∙◌}
 use Rattle.bitmap.specs.Marks.{trailing_ones}
 use Rattle.host_receive.specs.Counting.{run_within}
 use Rattle.host_receive.proofs.run.run_within.Goals as goal

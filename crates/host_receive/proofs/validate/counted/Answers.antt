@@ -1,6 +1,5 @@
 -- `host_receive::validate::counted`: each of the sums with the message.
 -- Assumes nothing.
-use Rattle.std.proofs.Common.{rules}
 use Rattle.host_receive.proofs.validate.counted.Goals as goal
 
 pub returns : goal.returns

@@ -1,6 +1,6 @@
 -- `host_receive::validate::current_entry`: the kept one where the entry is marked.
 -- Assumes nothing.
-use Rattle.std.proofs.Common.{◌∙◌, rules}
+use Rattle.std.proofs.Common.{◌∙◌}
 use Rattle.host_receive.proofs.validate.current_entry.Goals as goal
 
 pub returns-then-is_marked : goal.returns-then-is_marked

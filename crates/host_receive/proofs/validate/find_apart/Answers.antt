@@ -1,22 +1,10 @@
 -- `host_receive::validate::find_apart` judges message by message, as the definition does, with no entry kept.
 -- Assumes nothing.
-use Rattle.std.proofs.Common.{◌+◌, ◌-◌, [], length, sym, ap, ◌∙◌, inl, inr, arith, rules}
-use borrow.Author.Tests.{not-true, not-false}
+use Rattle.std.proofs.Common.{[], sym, ap, ◌∙◌, inl, inr, arith}
 use Rattle.wire_read.proofs.Finding.{is_whole}
 use Rattle.host_receive.specs.declared.validate.Validated.{Validated}
 use Rattle.host_receive.proofs.validate.Overlay.{current-words, need-not}
-use Rattle.host_receive.proofs.validate.Walk.{
-  validated-long,
-  Steady,
-  steady-start,
-  steady-turn,
-  Walking,
-  walking_start,
-  walking-past,
-  walking-stops,
-  walking-ends,
-  walking-apart,
-}
+use Rattle.host_receive.proofs.validate.Walk.{validated-long, steady-start, steady-turn, walking_start, walking-past, walking-stops, walking-ends, walking-apart}
 use Rattle.host_receive.proofs.validate.find_apart.Goals as goal
 
 pub returns-then-f-gt-FRAME_MOST : goal.returns-then-f-gt-FRAME_MOST
@@ -46,7 +34,8 @@ returns-then-v-ne0 c =
     let x = is_whole (sym c.message_at-found.ensures ∙ c.in-Whole.is) in
     let clear = sym c.is_marked.ensures ∙ c.if-is_marked.false in
     inr (c.refused_at-then-v-ne0.ensures
-    ∙ walking-stops c.loop-h.invariant.1 x (need-not c.args.words.now [] _ _ clear) (c.entry-o.ensures ∙ current-words c.args.words.now [] _ _ clear)
+    ∙ walking-stops c.loop-h.invariant.1 x
+    (need-not c.args.words.now [] _ _ clear) (c.entry-o.ensures ∙ current-words c.args.words.now [] _ _ clear)
     c.judge-v.ensures c.if-v-ne0.true)
 
 pub counted-counts-requires : goal.counted-counts-requires
@@ -59,8 +48,9 @@ returns-then-not-more c =
     let clear = sym c.is_marked.ensures ∙ c.if-is_marked.false in
     let q = rw c.counted-counts.ensures at c.passed.ensures in
     inr (q
-    ∙ walking-ends c.loop-h.invariant.1 x (need-not c.args.words.now [] _ _ clear) (c.entry-o.ensures ∙ current-words c.args.words.now [] _ _ clear)
-    c.judge-v.ensures c.if-v-ne0.false (not-true _ c.if-not-more.true-raw))
+    ∙ walking-ends c.loop-h.invariant.1 x
+    (need-not c.args.words.now [] _ _ clear) (c.entry-o.ensures ∙ current-words c.args.words.now [] _ _ clear)
+    c.judge-v.ensures c.if-v-ne0.false c.if-not-more.true)
 
 pub loop-h-smaller : goal.loop-h-smaller
 loop-h-smaller c =
@@ -73,7 +63,8 @@ loop-h-preserved c =
     let clear = sym c.is_marked.ensures ∙ c.if-is_marked.false in
     rw c.counted-counts.ensures (
       steady-turn c.loop-h.invariant.0 x c.judge-v.result.done,
-      walking-apart c.loop-h.invariant.1 x (need-not c.args.words.now [] _ _ clear) (c.entry-o.ensures ∙ current-words c.args.words.now [] _ _ clear)
-          c.judge-v.ensures c.if-v-ne0.false _ (not-false _ c.if-not-more.false-raw)
+      walking-apart c.loop-h.invariant.1 x
+          (need-not c.args.words.now [] _ _ clear) (c.entry-o.ensures ∙ current-words c.args.words.now [] _ _ clear)
+          c.judge-v.ensures c.if-v-ne0.false _ c.if-not-more.false
           (λ z. omega (arith, z)) c.marked-changed.ensures,
     )

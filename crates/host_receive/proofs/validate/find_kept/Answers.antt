@@ -1,20 +1,8 @@
 -- `host_receive::validate::find_kept` judges message by message, as the definition does.
 -- Assumes nothing.
-use Rattle.std.proofs.Common.{◌≡◌, ◌+◌, ◌-◌, length, sym, refl, ◌∙◌, arith, rules}
-use borrow.Author.Tests.{not-true, not-false}
+use Rattle.std.proofs.Common.{sym, refl, ◌∙◌, arith}
 use Rattle.wire_read.proofs.Finding.{is_whole}
-use Rattle.host_receive.proofs.validate.Walk.{
-  validated-long,
-  Steady,
-  steady-start,
-  steady-turn,
-  Walking,
-  walking_start,
-  walking-past,
-  walking-stops,
-  walking-ends,
-  walking_on,
-}
+use Rattle.host_receive.proofs.validate.Walk.{validated-long, steady-start, steady-turn, walking_start, walking-past, walking-stops, walking-ends, walking_on}
 use Rattle.host_receive.proofs.validate.find_kept.Goals as goal
 
 pub returns-then-f-gt-FRAME_MOST : goal.returns-then-f-gt-FRAME_MOST
@@ -54,7 +42,7 @@ returns-then-not-more c =
     let q = rw c.counted-counts.ensures at c.passed.ensures in
     q ∙ walking-ends c.loop-h.invariant.2 x (λ m. c.loop-h.invariant.1 ∙ c.requires)
     c.current_entry-o.ensures c.judge-v.ensures
-    c.if-v-ne0.false (not-true _ c.if-not-more.true-raw)
+    c.if-v-ne0.false c.if-not-more.true
 
 pub loop-h-smaller : goal.loop-h-smaller
 loop-h-smaller c =
@@ -66,9 +54,9 @@ loop-h-preserved c =
     let x = is_whole (sym c.message_at-found.ensures ∙ c.in-Whole.is) in
     rw c.counted-counts.ensures (
       steady-turn c.loop-h.invariant.0 x c.judge-v.result.done,
-      c.note-changed.auto.0 ∙ c.loop-h.invariant.1,
+      c.note-changed.auto.kept ∙ c.loop-h.invariant.1,
       walking_on c.loop-h.invariant.2 x (λ m. c.loop-h.invariant.1 ∙ c.requires)
           c.current_entry-o.ensures c.judge-v.ensures
-          c.if-v-ne0.false _ _ (not-false _ c.if-not-more.false-raw)
-          c.note-changed.auto.0 c.note-changed.ensures,
+          c.if-v-ne0.false _ _ c.if-not-more.false
+          c.note-changed.auto.kept c.note-changed.ensures,
     )

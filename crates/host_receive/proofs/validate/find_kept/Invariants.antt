@@ -1,26 +1,14 @@
 -- `host_receive::validate::find_kept` judges message by message, as the definition does.
 -- Assumes nothing.
-use Rattle.std.proofs.Common.{◌≡◌, ◌+◌, ◌-◌, length, sym, refl, ◌∙◌, arith, rules}
-use borrow.Author.Tests.{not-true, not-false}
-use Rattle.wire_read.proofs.Finding.{is_whole}
-use Rattle.host_receive.proofs.validate.Walk.{
-  validated-long,
-  Steady,
-  steady-start,
-  steady-turn,
-  Walking,
-  walking_start,
-  walking-past,
-  walking-stops,
-  walking-ends,
-  walking_on,
-}
+use Rattle.std.proofs.Common.{◌≡◌, ◌+◌, ◌-◌, length}
+use Rattle.host_receive.proofs.validate.Walk.{Steady, Walking}
 use Rattle.host_receive.proofs.validate.find_kept.Given as goal
 
 abbrev pub invariant-loop-h : goal.invariant-loop-h
 invariant-loop-h l = Steady l.f l.at l.counts.messages l.counts.bytes l.counts.completed
     × (length l.kept ≡ length l.initial.kept)
-    × Walking l.words l.kept l.f l.size l.lowest.0 l.closed l.changed l.counts.messages l.counts.bytes l.counts.completed l.at
+    × Walking l.words l.kept l.f l.size l.lowest.0 l.closed l.changed l.counts.messages l.counts.bytes
+    l.counts.completed l.at
 
 abbrev pub decreases-loop-h : goal.decreases-loop-h
 decreases-loop-h l = length l.f + 18 - l.at

@@ -1,6 +1,6 @@
 -- `host_receive::validate::marked`: nothing, or the mark set.
 -- Assumes nothing.
-use Rattle.std.proofs.Common.{refl, inl, inr, rules}
+use Rattle.std.proofs.Common.{refl, inl, inr}
 use Rattle.host_receive.proofs.validate.marked.Goals as goal
 
 pub returns-then-o-eq0 : goal.returns-then-o-eq0

@@ -1,6 +1,6 @@
 -- `host_receive::validate::validate`: as found with no entry kept, or with words to keep them in.
 -- Assumes nothing.
-use Rattle.std.proofs.Common.{⊎_elim, rules}
+use Rattle.std.proofs.Common.{⊎_elim}
 use Rattle.host_receive.proofs.validate.validate.Goals as goal
 
 pub returns-then-found : goal.returns-then-found

@@ -1,7 +1,6 @@
 -- `host_receive::verdict::closed_after`: the mark and the move of the window.
 -- Assumes nothing.
 use Rattle.host.specs.Transactions.{closed_verdict}
-use Rattle.std.proofs.Common.{rules}
 use Rattle.host_receive.proofs.verdict.closed_after.Goals as goal
 
 pub returns : goal.returns

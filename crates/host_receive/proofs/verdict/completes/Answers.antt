@@ -1,6 +1,6 @@
 -- `host_receive::verdict::completes`: with this message, as many as the transaction takes.
 -- Assumes nothing.
-use Rattle.std.proofs.Common.{◌≡◌, ℕ, ◌+◌, eqb, add-one, rules}
+use Rattle.std.proofs.Common.{◌≡◌, ℕ, ◌+◌, eqb, add-one}
 use Rattle.wire.specs.declared.MessageHeader.{MessageHeader}
 use Rattle.wire.specs.Format.{needed}
 use Rattle.host.specs.declared.Open.{Open}

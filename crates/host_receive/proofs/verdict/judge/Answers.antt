@@ -1,6 +1,6 @@
 -- `host_receive::verdict::judge`: the three verdicts.
 -- Assumes nothing.
-use Rattle.std.proofs.Common.{sym, ◌∙◌, rules}
+use Rattle.std.proofs.Common.{sym, ◌∙◌}
 use Rattle.host.specs.Transactions.{refused_verdict, open_verdict}
 use Rattle.host.proofs.Judging.{is-refused, is-closing, is-holding}
 use Rattle.host_receive.proofs.verdict.judge.Goals as goal

@@ -1,6 +1,5 @@
 -- `host_receive::verdict::left_in`: free where the transaction is complete.
 -- Assumes nothing.
-use Rattle.std.proofs.Common.{rules}
 use Rattle.host_receive.proofs.verdict.left_in.Goals as goal
 
 pub returns-then-completes : goal.returns-then-completes

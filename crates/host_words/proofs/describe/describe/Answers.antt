@@ -1,12 +1,9 @@
 -- `host_words::describe::describe` stores the head, and then the open ones in turn.
 -- Assumes nothing.
 use mathlib.Core.Path.{refl, sym}
-use Prim.Native.Nat.{◌-◌}
 use native.Mathlib.Omega.{arith}
 use lib.Dec.{lit≤}
-use Rattle.host_words.specs.Words.{pair_of}
-use Rattle.host_words.proofs.describe.Filling.{Storing, storing-start, storing-turn, storing-done}
-use borrow.Author.Rules.{rules}
+use Rattle.host_words.proofs.describe.Filling.{storing-start, storing-turn, storing-done}
 use Rattle.host_words.proofs.describe.describe.Goals as goal
 
 pub slice_bounds-put_head-end : goal.slice_bounds-put_head-end
@@ -22,8 +19,10 @@ pub slice_bounds-put_open-end : goal.slice_bounds-put_open-end
 slice_bounds-put_open-end c = sym c.loop-j.invariant.long
 
 pub put_open-at-requires : goal.put_open-at-requires
-put_open-at-requires c =
-    (omega (arith, c.loop-j.invariant.long, c.loop-j.invariant.low, c.loop-j-test.true), omega (arith, c.loop-j.invariant.low, c.loop-j-test.true))
+put_open-at-requires c = (
+  omega (arith, c.loop-j.invariant.long, c.loop-j.invariant.low, c.loop-j-test.true),
+  omega (arith, c.loop-j.invariant.low, c.loop-j-test.true),
+)
 
 pub overflow_add-j : goal.overflow_add-j
 overflow_add-j c = omega (arith, c.loop-j-test.true)

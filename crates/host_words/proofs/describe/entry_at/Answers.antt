@@ -7,7 +7,6 @@ use lib.ListN.{get_or}
 use Rattle.host.specs.Terms.{free}
 use Rattle.host_words.specs.Words.{pair_of}
 use Rattle.host_words.proofs.Words.{entry_at}
-use borrow.Author.Rules.{rules}
 use Rattle.host_words.proofs.describe.entry_at.Goals as goal
 
 pub returns : goal.returns

@@ -3,7 +3,6 @@
 use native.Mathlib.Omega.{arith}
 use native.Mathlib.Numerals.{towards_numerals}
 use lib.ListN.{length-set}
-use borrow.Author.Rules.{rules}
 use Rattle.host_words.proofs.describe.put_five.Goals as goal
 
 pub bounds-out-at-2 : goal.bounds-out-at-2

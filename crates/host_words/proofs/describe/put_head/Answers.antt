@@ -2,7 +2,6 @@
 -- Assumes nothing.
 use native.Mathlib.Omega.{arith}
 use lib.ListN.{length-set}
-use borrow.Author.Rules.{rules}
 use Rattle.host_words.proofs.describe.put_head.Goals as goal
 
 pub bounds-out-1 : goal.bounds-out-1

@@ -3,7 +3,6 @@
 use mathlib.Core.Path.{refl, ◌∙◌}
 use mathlib.Core.Logic.{inl, inr}
 use borrow.Author.Tests.{lt-ltb, le-ltb}
-use borrow.Author.Rules.{rules}
 use Rattle.host_words.proofs.describe.put_open.Goals as goal
 
 pub returns-then-o-gt0 : goal.returns-then-o-gt0

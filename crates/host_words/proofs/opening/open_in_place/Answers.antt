@@ -2,12 +2,13 @@
 -- Assumes nothing.
 use mathlib.Core.Path.{ap, ◌∙◌}
 use Rattle.host.specs.declared.Opened.{Opened}
-use borrow.Author.Rules.{rules}
 use Rattle.host_words.proofs.opening.open_in_place.Goals as goal
 
 pub returns : goal.returns
-returns c =
-    (
-      λ l. ((c.put_opened.ensures.0 l).0 ∙ ap (λ (o : Opened). o.pair) c.open_pair-opened.ensures, (c.put_opened.ensures.0 l).1 ∙ ap (λ (o : Opened). o.refusal.number) c.open_pair-opened.ensures),
-      c.put_opened.ensures.1,
-    )
+returns c = (
+  λ l. (
+    (c.put_opened.ensures.0 l).0 ∙ ap (λ (o : Opened). o.pair) c.open_pair-opened.ensures,
+    (c.put_opened.ensures.0 l).1 ∙ ap (λ (o : Opened). o.refusal.number) c.open_pair-opened.ensures,
+  ),
+  c.put_opened.ensures.1,
+)

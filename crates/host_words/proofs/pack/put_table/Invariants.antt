@@ -1,10 +1,7 @@
 -- `host_words::pack::put_table` stores the table entry by entry.
 -- Assumes nothing.
-use mathlib.Core.Path.{refl}
 use Prim.Native.Nat.{◌-◌}
-use native.Mathlib.Omega.{arith}
-use Rattle.host_words.proofs.pack.Packing.{Storing, storing-start, storing-turn, storing-done}
-use borrow.Author.Rules.{rules}
+use Rattle.host_words.proofs.pack.Packing.{Storing}
 use Rattle.host_words.proofs.pack.put_table.Given as goal
 
 abbrev pub invariant-loop-i : goal.invariant-loop-i

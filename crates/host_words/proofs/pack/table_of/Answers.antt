@@ -1,10 +1,8 @@
 -- `host_words::pack::table_of` fills the table entry by entry.
 -- Assumes nothing.
 use mathlib.Core.Path.{refl}
-use Prim.Native.Nat.{◌-◌}
 use native.Mathlib.Omega.{arith}
-use Rattle.host_words.proofs.pack.Packing.{Filling, filling-turn, filling-done}
-use borrow.Author.Rules.{rules}
+use Rattle.host_words.proofs.pack.Packing.{filling-turn, filling-done}
 use Rattle.host_words.proofs.pack.table_of.Goals as goal
 
 pub loop-i-init : goal.loop-i-init

@@ -1,6 +1,5 @@
 -- `host_words::pack::unpack`: field by field.
 -- Assumes nothing.
-use borrow.Author.Rules.{rules}
 use Rattle.host_words.proofs.pack.unpack.Goals as goal
 
 pub returns : goal.returns

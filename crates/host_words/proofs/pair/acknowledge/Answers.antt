@@ -1,6 +1,5 @@
 -- `host_words::pair::acknowledge`: the pair's IDs passed on, each in its own place.
 -- Assumes nothing.
-use borrow.Author.Rules.{rules}
 use Rattle.host_words.proofs.pair.acknowledge.Goals as goal
 
 pub returns : goal.returns

@@ -1,7 +1,6 @@
 -- `host_words::pair::acknowledge_from`: the range's frame, due where the range is not empty.
 -- Assumes nothing.
 use Rattle.host.specs.Host.{acknowledgement_from}
-use borrow.Author.Rules.{rules}
 use Rattle.host_words.proofs.pair.acknowledge_from.Goals as goal
 
 pub returns : goal.returns

@@ -3,7 +3,6 @@
 use mathlib.Core.Path.{◌∙◌}
 use borrow.Author.Tests.{eq-eqb, ne_eqb}
 use Rattle.host.specs.Host.{opened_of}
-use borrow.Author.Rules.{rules}
 use Rattle.host_words.proofs.pair.open_pair.Goals as goal
 
 pub returns-then-own-eq0 : goal.returns-then-own-eq0

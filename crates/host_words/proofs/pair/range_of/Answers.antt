@@ -1,6 +1,5 @@
 -- `host_words::pair::range_of`: each answer's range.
 -- Assumes nothing.
-use borrow.Author.Rules.{rules}
 use Rattle.host_words.proofs.pair.range_of.Goals as goal
 
 pub returns-in-Accepted : goal.returns-in-Accepted

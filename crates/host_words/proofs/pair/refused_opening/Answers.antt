@@ -1,6 +1,5 @@
 -- `host_words::pair::refused_opening` is the definition.
 -- Assumes nothing.
-use borrow.Author.Rules.{rules}
 use Rattle.host_words.proofs.pair.refused_opening.Goals as goal
 
 pub returns : goal.returns

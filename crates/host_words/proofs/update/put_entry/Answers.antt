@@ -5,7 +5,6 @@ use Prim.Native.Nat.{◌%◌}
 use native.Mathlib.Omega.{arith}
 use Rattle.host_words.specs.Updating.{with_entry}
 use Rattle.host_words.proofs.update.Updating.{holds-entry}
-use borrow.Author.Rules.{rules}
 use Rattle.host_words.proofs.update.put_entry.Goals as goal
 
 pub returns : goal.returns
@@ -17,6 +16,6 @@ returns c =
     ∙ rw (c.put.ensures, c.of_quarters-counts.ensures, c.of_halves-terms.ensures) in record {
       w_after = e;
       holds_entry = λ l. rw e
-          (holds-entry a.w.now (a.number.0 % 32) a.o (omega arith) (omega (arith, c.well_formed.1)) (omega (arith, c.well_formed.1))
-          (omega (arith, c.well_formed.1)) (omega (arith, c.well_formed.1)) l);
+          (holds-entry a.w.now (a.number.0 % 32) a.o (omega arith) (omega (arith, c.well_formed.1))
+          (omega (arith, c.well_formed.1)) (omega (arith, c.well_formed.1)) (omega (arith, c.well_formed.1)) l);
     }

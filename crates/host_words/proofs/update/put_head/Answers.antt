@@ -4,7 +4,6 @@ use mathlib.Core.Path.{◌≡◌, ◌∙◌}
 use native.Mathlib.Omega.{arith}
 use Rattle.host_words.specs.Updating.{with_head}
 use Rattle.host_words.proofs.update.Updating.{holds-head}
-use borrow.Author.Rules.{rules}
 use Rattle.host_words.proofs.update.put_head.Goals as goal
 
 pub returns : goal.returns
@@ -16,6 +15,6 @@ returns c =
     ∙ rw (c.put-2.ensures, c.put.ensures, c.of_halves-window.ensures, c.of_quarters-ids.ensures) in record {
       w_after = e;
       holds_head = λ l. rw e
-          (holds-head a.w.now a.h l (omega (arith, c.well_formed.1)) (omega (arith, c.well_formed.1)) (omega (arith, c.well_formed.1)) (omega (arith, c.well_formed.1))
-          (omega (arith, c.well_formed.1)));
+          (holds-head a.w.now a.h l (omega (arith, c.well_formed.1)) (omega (arith, c.well_formed.1))
+          (omega (arith, c.well_formed.1)) (omega (arith, c.well_formed.1)) (omega (arith, c.well_formed.1)));
     }
