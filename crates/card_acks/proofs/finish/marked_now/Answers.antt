@@ -1,12 +1,7 @@
 -- `marked_now`: mark by mark, of the transactions opened.
 -- Assumes nothing.
 use mathlib.Core.Path.{sym, ◌∙◌}
-use mathlib.Core.Logic.{⊎_elim}
-use Prim.Native.Nat.{◌-◌}
-use native.Mathlib.Omega.{arith}
-use borrow.Author.Rules.{rules}
-use Rattle.bitmap.proofs.Marks.{MarkedUpTo, none-marked, one_more}
-use Rattle.card.specs.Sendings.{finished_by}
+use Rattle.bitmap.proofs.Marks.{none-marked, one_more}
 use Rattle.card_words.specs.Words.{card_of}
 use Rattle.card_acks.proofs.finish.InPlace.{within-32, one-is, finished-all, finished-is, lowest-is, looked-at}
 use Rattle.card_acks.proofs.finish.marked_now.Goals as goal
@@ -25,8 +20,8 @@ loop-i-preserved c =
     (c.is_finished.ensures
     ∙ one-is (card_of w).sendings a.from.0 a.base.0 _ most _ _ _ c.loop-i-test.true (finished-is w _ c.head_of-h.ensures) (lowest-is w _ c.head_of-h.ensures))
     (elim c.if-is_finished.branch [
-      then-is_finished w ↦ ?
-    | else-is_finished w ↦ ?
+      | then-is_finished w ↦ w.finished-is ∙ w.with_mark-finished.ensures ∙ sym (rw w.if-is_finished.true)
+      | else-is_finished w ↦ w.finished-is ∙ sym (rw w.if-is_finished.false)
     ])
 
 pub returns : goal.returns
