@@ -16,7 +16,7 @@ returns-then-not-is_fitting c =
     let a = c.args in
     rw (
       eq-eqb _ 85 c.if-words-ne-CARD_WORDS.false,
-      unfit a.words.now _ c.head_of-h.ensures a.slots.now _ c.is_fitting.ensures c.if-not-is_fitting.true-raw,
+      unfit a.words.now _ c.head_of-h.ensures a.slots.now _ c.is_fitting.ensures (rw c.if-not-is_fitting.true),
     )
 
 pub returns-then-is_ack : goal.returns-then-is_ack
@@ -25,7 +25,7 @@ returns-then-is_ack c =
     let a = c.args in
     let long = eq-eqb _ 85 c.if-words-ne-CARD_WORDS.false in
     let fitting =
-    fit a.words.now _ c.head_of-h.ensures a.slots.now _ c.is_fitting.ensures c.if-not-is_fitting.false-raw in
+    fit a.words.now _ c.head_of-h.ensures a.slots.now _ c.is_fitting.ensures (rw c.if-not-is_fitting.false) in
     rw (long, fitting, sym c.is_ack.ensures ∙ c.if-is_ack.true)
 
 pub returns-then-is_any_held : goal.returns-then-is_any_held
@@ -34,7 +34,7 @@ returns-then-is_any_held c =
     let a = c.args in
     let long = eq-eqb _ 85 c.if-words-ne-CARD_WORDS.false in
     let fitting =
-    fit a.words.now _ c.head_of-h.ensures a.slots.now _ c.is_fitting.ensures c.if-not-is_fitting.false-raw in
+    fit a.words.now _ c.head_of-h.ensures a.slots.now _ c.is_fitting.ensures (rw c.if-not-is_fitting.false) in
     let unlent = sym c.is_ack.ensures ∙ c.if-is_ack.false in
     rw (long, fitting, unlent, sym c.is_any_held.ensures ∙ c.if-is_any_held.true)
 
@@ -44,6 +44,6 @@ returns c =
     let a = c.args in
     let long = eq-eqb _ 85 c.if-words-ne-CARD_WORDS.false in
     let fitting =
-    fit a.words.now _ c.head_of-h.ensures a.slots.now _ c.is_fitting.ensures c.if-not-is_fitting.false-raw in
+    fit a.words.now _ c.head_of-h.ensures a.slots.now _ c.is_fitting.ensures (rw c.if-not-is_fitting.false) in
     let unlent = sym c.is_ack.ensures ∙ c.if-is_ack.false in
     rw (long, fitting, unlent, sym c.is_any_held.ensures ∙ c.if-is_any_held.false)

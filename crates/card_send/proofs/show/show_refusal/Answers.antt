@@ -1,7 +1,7 @@
 -- `show_refusal`: 26 before 25.
 -- Assumes nothing.
 use mathlib.Core.Path.{sym, ◌∙◌}
-use borrow.Author.Tests.{eq-eqb, ne_eqb, not-true, not-false}
+use borrow.Author.Tests.{eq-eqb, ne_eqb}
 use Rattle.card.specs.Card.{show_refusal}
 use Rattle.card_words.proofs.Heads.{unfit, fit}
 use Rattle.card_send.proofs.show.show_refusal.Goals as goal
@@ -16,7 +16,7 @@ returns-then-not-is_fitting c =
     let a = c.args in
     rw (
       eq-eqb _ 85 c.if-words-ne-CARD_WORDS.false,
-      unfit a.words.now _ c.head_of-h.ensures a.slots.now _ c.is_fitting.ensures c.if-not-is_fitting.true-raw,
+      unfit a.words.now _ c.head_of-h.ensures a.slots.now _ c.is_fitting.ensures (rw c.if-not-is_fitting.true),
     )
 
 pub returns-then-not-is_held : goal.returns-then-not-is_held
@@ -25,8 +25,8 @@ returns-then-not-is_held c =
     let a = c.args in
     let long = eq-eqb _ 85 c.if-words-ne-CARD_WORDS.false in
     let fitting =
-    fit a.words.now _ c.head_of-h.ensures a.slots.now _ c.is_fitting.ensures c.if-not-is_fitting.false-raw in
-    rw (long, fitting, sym c.is_held.ensures ∙ not-true _ c.if-not-is_held.true-raw)
+    fit a.words.now _ c.head_of-h.ensures a.slots.now _ c.is_fitting.ensures (rw c.if-not-is_fitting.false) in
+    rw (long, fitting, sym c.is_held.ensures ∙ c.if-not-is_held.true)
 
 pub returns : goal.returns
 unfolding show_refusal
@@ -34,5 +34,5 @@ returns c =
     let a = c.args in
     let long = eq-eqb _ 85 c.if-words-ne-CARD_WORDS.false in
     let fitting =
-    fit a.words.now _ c.head_of-h.ensures a.slots.now _ c.is_fitting.ensures c.if-not-is_fitting.false-raw in
-    rw (long, fitting, sym c.is_held.ensures ∙ not-false _ c.if-not-is_held.false-raw)
+    fit a.words.now _ c.head_of-h.ensures a.slots.now _ c.is_fitting.ensures (rw c.if-not-is_fitting.false) in
+    rw (long, fitting, sym c.is_held.ensures ∙ c.if-not-is_held.false)
