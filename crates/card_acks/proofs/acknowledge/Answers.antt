@@ -3,7 +3,6 @@
 use native.Mathlib.Omega.{arith}
 use Rattle.bitmap.proofs.Marks.{ones-le}
 use Rattle.card_acks.proofs.InPlace.{released-now}
-use borrow.Author.Rules.{rules}
 use Rattle.card_acks.proofs.acknowledge.Goals as goal
 
 pub overflow_cast-run : goal.overflow_cast-run

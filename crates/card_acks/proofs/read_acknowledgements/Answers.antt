@@ -4,7 +4,6 @@ use mathlib.Core.Path.{refl, sym, ap}
 use borrow.Author.Tests.{eq-eqb, ne_eqb}
 use Rattle.card.specs.declared.Stepped.{Stepped}
 use Rattle.card_acks.proofs.InPlace.{reading-refused, reading-done}
-use borrow.Author.Rules.{rules}
 use Rattle.card_acks.proofs.read_acknowledgements.Goals as goal
 
 pub returns-then-words-ne-CARD_WORDS : goal.returns-then-words-ne-CARD_WORDS

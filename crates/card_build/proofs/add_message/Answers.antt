@@ -8,25 +8,28 @@ use Rattle.card.proofs.Slots.{addable, room_in, limit-most}
 use Rattle.card_words.specs.Words.{card_of}
 use Rattle.card_build.specs.Building.{added_in}
 use Rattle.card_build.proofs.InPlace.{adding-refused, adding-done}
-use borrow.Author.Rules.{rules}
 use Rattle.card_build.proofs.add_message.Goals as goal
 
 pub returns-then-words-ne-CARD_WORDS : goal.returns-then-words-ne-CARD_WORDS
 unfolding added_in
 returns-then-words-ne-CARD_WORDS c =
-    let whole = (rw (ne_eqb _ 85 c.if-words-ne-CARD_WORDS.true), ((λ l. absurd (c.if-words-ne-CARD_WORDS.true l), λ n. refl), rw (ne_eqb _ 85 c.if-words-ne-CARD_WORDS.true))) in
-    record { value = whole.0; steps = whole.1; slots_after = whole.2 }
+    record {
+      value = rw (ne_eqb _ 85 c.if-words-ne-CARD_WORDS.true);
+      steps = (λ l. absurd (c.if-words-ne-CARD_WORDS.true l), λ n. refl);
+      slots_after = rw (ne_eqb _ 85 c.if-words-ne-CARD_WORDS.true);
+    }
 
 pub returns-then-refusal-ne0 : goal.returns-then-refusal-ne0
 unfolding added_in
 returns-then-refusal-ne0 c =
     let a = c.args in
     let done = adding-refused (card_of a.words.now) a.slots.now a.t.0 a.at a.payload.now _
-    c.add_refusal-refusal.ensures c.if-refusal-ne0.true in let whole = (
-      rw (eq-eqb _ 85 c.if-words-ne-CARD_WORDS.false, done),
-      ((λ l. sym (ap (λ (x : Added). x.step.card) done), λ n. refl), rw (eq-eqb _ 85 c.if-words-ne-CARD_WORDS.false, done)),
-    ) in
-    record { value = whole.0; steps = whole.1; slots_after = whole.2 }
+    c.add_refusal-refusal.ensures c.if-refusal-ne0.true in
+    record {
+      value = rw (eq-eqb _ 85 c.if-words-ne-CARD_WORDS.false, done);
+      steps = (λ l. sym (ap (λ (x : Added). x.step.card) done), λ n. refl);
+      slots_after = rw (eq-eqb _ 85 c.if-words-ne-CARD_WORDS.false, done);
+    }
 
 pub write_message-requires : goal.write_message-requires
 write_message-requires c =
@@ -54,11 +57,9 @@ returns c =
     let a = c.args in
     let done = adding-done (card_of a.words.now) a.slots.now a.t.0 a.at a.payload.now _
     c.add_refusal-refusal.ensures
-    c.if-refusal-ne0.false in let whole = (
-      rw (eq-eqb _ 85 c.if-words-ne-CARD_WORDS.false, done),
-      (
-        (λ l. c.count_message.ensures l ∙ sym (ap (λ (x : Added). x.step.card) done), λ n. absurd (n refl)),
-        rw (eq-eqb _ 85 c.if-words-ne-CARD_WORDS.false, done) c.write_message.ensures,
-      ),
-    ) in
-    record { value = whole.0; steps = whole.1; slots_after = whole.2 }
+    c.if-refusal-ne0.false in
+    record {
+      value = rw (eq-eqb _ 85 c.if-words-ne-CARD_WORDS.false, done);
+      steps = (λ l. c.count_message.ensures l ∙ sym (ap (λ (x : Added). x.step.card) done), λ n. absurd (n refl));
+      slots_after = rw (eq-eqb _ 85 c.if-words-ne-CARD_WORDS.false, done) c.write_message.ensures;
+    }

@@ -1,22 +1,10 @@
 -- `count_message`: the transaction has a message more, and the frame being built is longer by it.
 -- Assumes nothing.
 use native.Mathlib.Omega.{arith}
-use Prim.Native.Nat.{◌+◌, ◌≤◌}
 use lib.ListN.{length}
 use Rattle.card_build.proofs.InPlace.{room-for-one, ends-within, counted}
 use borrow.Author.Rules.{rules}
 use Rattle.card_build.proofs.count_message.Goals as goal
-
-abbrev first-call : tie.After-header-offset → tie.Start
-first-call c = (after-head c).before.before.before.before
-
--- the message being counted ends inside the longest frame
-message-inside : (c : tie.After-header-offset)
-    → c.header-offset.result + 24 + length (first-call c).args.payload.now ≤ 9000
-message-inside c =
-    let o = first-call c in
-    ends-within o.args.words.now _ (after-head c).head_of.ensures (length o.args.payload.now) _
-    c.header-offset.ensures o.pre.1
 
 pub overflow_add-e : goal.overflow_add-e
 overflow_add-e c =
@@ -27,16 +15,40 @@ overflow_add-e c =
     )
 
 pub overflow_add-next : goal.overflow_add-next
-overflow_add-next c = omega (arith, message-inside c)
+overflow_add-next c =
+    let a = c.args in
+    omega (
+      arith,
+      ends-within a.words.now _ c.head_of-h.ensures (length a.payload.now) _ c.header_offset-start.ensures
+          c.requires.payload_bound,
+    )
 
 pub overflow_add-next-2 : goal.overflow_add-next-2
-overflow_add-next-2 c = omega (arith, message-inside c)
+overflow_add-next-2 c =
+    let a = c.args in
+    omega (
+      arith,
+      ends-within a.words.now _ c.head_of-h.ensures (length a.payload.now) _ c.header_offset-start.ensures
+          c.requires.payload_bound,
+    )
 
 pub overflow_cast-next : goal.overflow_cast-next
-overflow_cast-next c = omega (arith, message-inside c)
+overflow_cast-next c =
+    let a = c.args in
+    omega (
+      arith,
+      ends-within a.words.now _ c.head_of-h.ensures (length a.payload.now) _ c.header_offset-start.ensures
+          c.requires.payload_bound,
+    )
 
 pub overflow_cast-next-2 : goal.overflow_cast-next-2
-overflow_cast-next-2 c = omega (arith, message-inside c)
+overflow_cast-next-2 c =
+    let a = c.args in
+    omega (
+      arith,
+      ends-within a.words.now _ c.head_of-h.ensures (length a.payload.now) _ c.header_offset-start.ensures
+          c.requires.payload_bound,
+    )
 
 pub returns : goal.returns
 returns c =

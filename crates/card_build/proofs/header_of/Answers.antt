@@ -2,7 +2,6 @@
 -- Assumes nothing.
 use Rattle.wire.specs.Format.{message_header}
 use Rattle.card.specs.Card.{message_of}
-use borrow.Author.Rules.{rules}
 use Rattle.card_build.proofs.header_of.Goals as goal
 
 pub returns : goal.returns

@@ -1,7 +1,6 @@
 -- `write_in_slot`: the frame writer writes the first message, or the next one.
 -- Assumes nothing.
 use borrow.Author.Tests.{eq-eqb, ne_eqb}
-use borrow.Author.Rules.{rules}
 use Rattle.card_build.proofs.write_in_slot.Goals as goal
 
 pub returns-then-used-eq0 : goal.returns-then-used-eq0

@@ -1,8 +1,8 @@
 -- `ledger_words::copy_of`: word by word.
 -- Assumes nothing.
-use Rattle.std.proofs.Common.{ℕ, ◌-◌, arith}
+use Rattle.std.proofs.Common.{ℕ, arith}
 use lib.ListN.{length-replicate}
-use Rattle.ledger_words.proofs.Storing.{Copied, copy_start, copy-turn, copy_done}
+use Rattle.ledger_words.proofs.Storing.{copy_start, copy-turn, copy_done}
 use Rattle.ledger_words.proofs.copy_of.Goals as goal
 
 pub loop-i-init : goal.loop-i-init

@@ -1,8 +1,7 @@
 -- `ledger_words::copy_of`: word by word.
 -- Assumes nothing.
-use Rattle.std.proofs.Common.{ℕ, ◌-◌, arith}
-use lib.ListN.{length-replicate}
-use Rattle.ledger_words.proofs.Storing.{Copied, copy_start, copy-turn, copy_done}
+use Rattle.std.proofs.Common.{◌-◌}
+use Rattle.ledger_words.proofs.Storing.{Copied}
 use Rattle.ledger_words.proofs.copy_of.Given as goal
 
 abbrev pub invariant-loop-i : goal.invariant-loop-i

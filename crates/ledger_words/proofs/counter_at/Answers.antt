@@ -1,7 +1,6 @@
 -- `ledger_words::counter_at`: the second field of a reading.
 -- Assumes nothing.
 use Rattle.ledger.specs.Ledger.{reading_at}
-use Rattle.std.proofs.Common.{rules}
 use Rattle.ledger_words.proofs.counter_at.Goals as goal
 
 pub returns : goal.returns

@@ -1,10 +1,9 @@
 -- `ledger_words::enter_all`: the loop in place, and the sum at its end.
 -- Assumes nothing.
-use Rattle.std.proofs.Common.{◌≡◌, ◌-◌, length, sym, ap, ◌∙◌, arith, length-set}
+use Rattle.std.proofs.Common.{sym, ap, ◌∙◌, arith}
 use Rattle.ledger.specs.Ledger.{Outcome}
-use Rattle.ledger_words.specs.LedgerWords.{ledger_words, accounts_in, ledger_in}
 use Rattle.ledger_words.proofs.Holding.{held-beside, sum-stored}
-use Rattle.ledger_words.proofs.Loops.{Entering, enter-start, enter-turn, enter-clear, enter-done}
+use Rattle.ledger_words.proofs.Loops.{enter-start, enter-turn, enter-clear, enter-done}
 use Rattle.ledger_words.proofs.enter_all.Goals as goal
 
 pub bounds-words-2048 : goal.bounds-words-2048
@@ -20,12 +19,11 @@ pub counter_at-counter-requires : goal.counter_at-counter-requires
 counter_at-counter-requires c = omega (arith, c.loop-k.invariant.0.readings)
 
 pub enter-sum-requires : goal.enter-sum-requires
-enter-sum-requires c =
-    (
-      c.loop-k.invariant.1,
-      enter-clear c.loop-k.invariant.0 _ _ c.loop-k-test.true c.subscriber_at-subscriber.ensures
-          c.counter_at-counter.ensures c.requires.1,
-    )
+enter-sum-requires c = (
+  c.loop-k.invariant.1,
+  enter-clear c.loop-k.invariant.0 _ _ c.loop-k-test.true c.subscriber_at-subscriber.ensures
+      c.counter_at-counter.ensures c.requires.1,
+)
 
 pub loop-k-preserved : goal.loop-k-preserved
 loop-k-preserved c =
@@ -34,7 +32,7 @@ loop-k-preserved c =
     c.counter_at-counter.ensures c.requires.1 in (
       enter-turn c.loop-k.invariant.0 _ _ c.loop-k-test.true c.subscriber_at-subscriber.ensures
           c.counter_at-counter.ensures _ clear c.enter-sum.ensures,
-      c.enter-sum.auto.0 ∙ c.loop-k.invariant.1,
+      omega (arith, c.enter-sum.auto.words, c.loop-k.invariant.1),
     )
 
 pub bounds-words-2048-2 : goal.bounds-words-2048-2

@@ -1,10 +1,8 @@
 -- `ledger_words::enter_all`: the loop in place, and the sum at its end.
 -- Assumes nothing.
-use Rattle.std.proofs.Common.{◌≡◌, ◌-◌, length, sym, ap, ◌∙◌, arith, length-set}
-use Rattle.ledger.specs.Ledger.{Outcome}
+use Rattle.std.proofs.Common.{◌≡◌, ◌-◌, length}
 use Rattle.ledger_words.specs.LedgerWords.{ledger_words, accounts_in, ledger_in}
-use Rattle.ledger_words.proofs.Holding.{held-beside, sum-stored}
-use Rattle.ledger_words.proofs.Loops.{Entering, enter-start, enter-turn, enter-clear, enter-done}
+use Rattle.ledger_words.proofs.Loops.{Entering}
 use Rattle.ledger_words.proofs.enter_all.Given as goal
 
 abbrev pub invariant-loop-k : goal.invariant-loop-k

@@ -1,6 +1,6 @@
 -- `ledger_words::fault_of`: the three faults in their order.
 -- Assumes nothing.
-use Rattle.std.proofs.Common.{◌<◌, sym, arith, rules}
+use Rattle.std.proofs.Common.{◌<◌, sym, arith}
 use Rattle.ledger.specs.Ledger.{reading_of, subscribers}
 use Rattle.ledger.proofs.Steps.{unknown, total-past, sum_past, no-fault}
 use Rattle.ledger_words.specs.LedgerWords.{accounts_in}

@@ -1,10 +1,9 @@
 -- `ledger_words::first_fault`: the loop on a copy.
 -- Assumes nothing.
-use Rattle.std.proofs.Common.{◌≡◌, ◌-◌, length, sym, ap, ◌∙◌, arith}
+use Rattle.std.proofs.Common.{sym, ap, ◌∙◌, arith}
 use Rattle.ledger.specs.Ledger.{Outcome}
-use Rattle.ledger_words.specs.LedgerWords.{ledger_words, accounts_in, ledger_in}
 use Rattle.ledger_words.proofs.Holding.{held-beside}
-use Rattle.ledger_words.proofs.Loops.{Entering, enter-start, enter-turn, enter-stop, enter-done}
+use Rattle.ledger_words.proofs.Loops.{enter-start, enter-turn, enter-stop, enter-done}
 use Rattle.ledger_words.proofs.first_fault.Goals as goal
 
 pub copy_of-copy-requires : goal.copy_of-copy-requires
@@ -38,20 +37,18 @@ pub slice_bounds-enter-end : goal.slice_bounds-enter-end
 slice_bounds-enter-end c = omega (arith, c.loop-k.invariant.1)
 
 pub enter-sum-requires : goal.enter-sum-requires
-enter-sum-requires c =
-    (
+enter-sum-requires c = (
   c.loop-k.invariant.1,
   sym c.fault_of-number.ensures ∙ c.if-number-ne0.false,
 )
 
 pub loop-k-preserved : goal.loop-k-preserved
-loop-k-preserved c =
-    (
-      enter-turn c.loop-k.invariant.0 _ _ c.loop-k-test.true c.subscriber_at-subscriber.ensures
-          c.counter_at-counter.ensures _ (sym c.fault_of-number.ensures ∙ c.if-number-ne0.false)
-          c.enter-sum.ensures,
-      c.enter-sum.auto.0 ∙ c.loop-k.invariant.1,
-    )
+loop-k-preserved c = (
+  enter-turn c.loop-k.invariant.0 _ _ c.loop-k-test.true c.subscriber_at-subscriber.ensures
+      c.counter_at-counter.ensures _ (sym c.fault_of-number.ensures ∙ c.if-number-ne0.false)
+      c.enter-sum.ensures,
+  omega (arith, c.enter-sum.auto.words, c.loop-k.invariant.1),
+)
 
 pub returns : goal.returns
 returns c = sym (ap (λ (o : Outcome). o.refusal) (enter-done c.loop-k.invariant.0 c.loop-k-test.false))

@@ -1,10 +1,8 @@
 -- `ledger_words::first_fault`: the loop on a copy.
 -- Assumes nothing.
-use Rattle.std.proofs.Common.{◌≡◌, ◌-◌, length, sym, ap, ◌∙◌, arith}
-use Rattle.ledger.specs.Ledger.{Outcome}
+use Rattle.std.proofs.Common.{◌≡◌, ◌-◌, length}
 use Rattle.ledger_words.specs.LedgerWords.{ledger_words, accounts_in, ledger_in}
-use Rattle.ledger_words.proofs.Holding.{held-beside}
-use Rattle.ledger_words.proofs.Loops.{Entering, enter-start, enter-turn, enter-stop, enter-done}
+use Rattle.ledger_words.proofs.Loops.{Entering}
 use Rattle.ledger_words.proofs.first_fault.Given as goal
 
 abbrev pub invariant-loop-k : goal.invariant-loop-k

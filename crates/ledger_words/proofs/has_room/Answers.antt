@@ -1,10 +1,10 @@
 -- `ledger_words::has_room`: the loop that looks for room, and the two comparisons behind it.
 -- Assumes nothing.
-use Rattle.std.proofs.Common.{◌-◌, ◌%◌, sym, mod-lt, arith, lit<}
+use Rattle.std.proofs.Common.{◌%◌, sym, mod-lt, arith, lit<}
 use Rattle.ledger.specs.Ledger.{subscribers}
 use Rattle.ledger_words.specs.LedgerWords.{ledger_in}
 use Rattle.ledger_words.proofs.Holding.{held-total, held-sum}
-use Rattle.ledger_words.proofs.Loops.{Looked, too_many, sum-high, look-start, look-turn, look-unknown, look-done}
+use Rattle.ledger_words.proofs.Loops.{too_many, sum-high, look-start, look-turn, look-unknown, look-done}
 use Rattle.ledger_words.proofs.has_room.Goals as goal
 
 pub returns-then-n-gt-READINGS_MOST : goal.returns-then-n-gt-READINGS_MOST

@@ -1,6 +1,6 @@
 -- `ledger_words::judge`: the size, the quick test, and else the first fault.
 -- Assumes nothing.
-use Rattle.std.proofs.Common.{sym, ap, ◌∙◌, rules}
+use Rattle.std.proofs.Common.{sym, ap, ◌∙◌}
 use Rattle.ledger.specs.Ledger.{Outcome, readings_of}
 use Rattle.ledger.proofs.Steps.{bad-size, good-size}
 use Rattle.ledger_words.specs.LedgerWords.{ledger_in}

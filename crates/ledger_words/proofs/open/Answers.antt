@@ -1,7 +1,7 @@
 -- `ledger_words::open`: words of another number, and the loop that sets all to 0.
 -- Assumes nothing.
-use Rattle.std.proofs.Common.{◌-◌, sym, refl, ◌∙◌, arith}
-use Rattle.ledger_words.proofs.Storing.{Zeroed, zero-start, zero_turn, zero-done}
+use Rattle.std.proofs.Common.{refl, arith}
+use Rattle.ledger_words.proofs.Storing.{zero-start, zero_turn, zero-done}
 use Rattle.ledger_words.proofs.open.Goals as goal
 
 pub returns-then-words-ne-LEDGER_WORDS : goal.returns-then-words-ne-LEDGER_WORDS
@@ -17,8 +17,7 @@ pub loop-at-preserved : goal.loop-at-preserved
 loop-at-preserved c = zero_turn c.loop-at-test.true c.loop-at.invariant
 
 pub returns : goal.returns
-returns c =
-    (
+returns c = (
   λ l. (zero-done c.loop-at-test.false c.loop-at.invariant, refl),
   λ n. absurd (n c.if-words-ne-LEDGER_WORDS.false),
 )

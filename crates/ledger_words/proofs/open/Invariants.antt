@@ -1,7 +1,7 @@
 -- `ledger_words::open`: words of another number, and the loop that sets all to 0.
 -- Assumes nothing.
-use Rattle.std.proofs.Common.{◌-◌, sym, refl, ◌∙◌, arith}
-use Rattle.ledger_words.proofs.Storing.{Zeroed, zero-start, zero_turn, zero-done}
+use Rattle.std.proofs.Common.{◌-◌}
+use Rattle.ledger_words.proofs.Storing.{Zeroed}
 use Rattle.ledger_words.proofs.open.Given as goal
 
 abbrev pub invariant-loop-at : goal.invariant-loop-at

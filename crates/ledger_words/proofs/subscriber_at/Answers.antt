@@ -1,7 +1,6 @@
 -- `ledger_words::subscriber_at`: the first field of a reading.
 -- Assumes nothing.
 use Rattle.ledger.specs.Ledger.{reading_at}
-use Rattle.std.proofs.Common.{rules}
 use Rattle.ledger_words.proofs.subscriber_at.Goals as goal
 
 pub returns : goal.returns

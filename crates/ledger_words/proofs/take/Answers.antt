@@ -1,6 +1,6 @@
 -- `ledger_words::take`: words of another number, a refused block, and one that is entered.
 -- Assumes nothing.
-use Rattle.std.proofs.Common.{sym, refl, ap, ◌∙◌, rules}
+use Rattle.std.proofs.Common.{sym, refl, ap, ◌∙◌}
 use Rattle.ledger.specs.Ledger.{Outcome}
 use Rattle.ledger.proofs.Steps.{accepted-block, refused-block}
 use Rattle.ledger_words.specs.LedgerWords.{ledger_in}
@@ -12,8 +12,7 @@ returns-then-words-ne-LEDGER_WORDS c =
 
 pub returns-then-refusal-ne0 : goal.returns-then-refusal-ne0
 returns-then-refusal-ne0 c =
-    let a = c.args in
-    (
+    let a = c.args in (
       (
         λ l. (sym (refused-block (ledger_in a.words.now) a.block.now (λ z. c.if-refusal-ne0.true (c.judge-refusal.ensures ∙ z))), c.judge-refusal.ensures),
         λ n. absurd (n c.if-words-ne-LEDGER_WORDS.false),

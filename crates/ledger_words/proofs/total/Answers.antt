@@ -1,7 +1,6 @@
 -- `ledger_words::total`: past the subscribers, never read, read.
 -- Assumes nothing.
 use Rattle.ledger_words.proofs.Telling.{told-past, told-unread, told-read}
-use Rattle.std.proofs.Common.{rules}
 use Rattle.ledger_words.proofs.total.Goals as goal
 
 pub returns-then-subscriber-ge-SUBSCRIBERS : goal.returns-then-subscriber-ge-SUBSCRIBERS

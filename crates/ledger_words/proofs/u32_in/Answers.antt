@@ -1,6 +1,6 @@
 -- `ledger_words::u32_in`: a field of four bytes, byte by byte.
 -- Assumes nothing.
-use Rattle.std.proofs.Common.{arith, rules}
+use Rattle.std.proofs.Common.{arith}
 use Rattle.octets.proofs.Octets.{field-4}
 use Rattle.ledger_words.proofs.u32_in.Goals as goal
 

@@ -1,7 +1,6 @@
 -- `acknowledged_marks`: marked before or in the range, and sealed.
 -- Assumes nothing.
 use Rattle.card_acks.proofs.cover.InPlace.{acknowledged-by}
-use borrow.Author.Rules.{rules}
 use Rattle.card_acks.proofs.cover.acknowledged_marks.Goals as goal
 
 pub returns : goal.returns

@@ -1,7 +1,6 @@
 -- `finished_marks`: those finished before where no frame is released, and each looked at where one is.
 -- Assumes nothing.
 use mathlib.Core.Path.{sym, ◌∙◌}
-use borrow.Author.Rules.{rules}
 use Rattle.card_words.specs.Words.{card_of}
 use Rattle.card_acks.proofs.finish.InPlace.{none-now}
 use Rattle.card_acks.proofs.finish.finished_marks.Goals as goal

@@ -4,7 +4,6 @@ use mathlib.Core.Path.{◌≡◌}
 use borrow.Author.Tests.{eq-eqb, ne_eqb}
 use Rattle.seq.specs.Ring.{frame_space, distance}
 use Rattle.card.specs.Sendings.{all_released}
-use borrow.Author.Rules.{rules}
 use Rattle.card_acks.proofs.finish.is_all_released.Goals as goal
 
 pub returns-then-e-messages_needed : goal.returns-then-e-messages_needed

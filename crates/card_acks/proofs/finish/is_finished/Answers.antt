@@ -4,7 +4,6 @@ use mathlib.Core.Path.{◌≡◌, ◌∙◌}
 use Rattle.bitmap.specs.Marks.{mark}
 use Rattle.card_acks.specs.Finishing.{finished_now}
 use Rattle.card_acks.proofs.finish.InPlace.{entry-is}
-use borrow.Author.Rules.{rules}
 use Rattle.card_acks.proofs.finish.is_finished.Goals as goal
 
 pub returns-then-is_marked : goal.returns-then-is_marked

@@ -1,6 +1,5 @@
 -- `marked_before`: the marks of those opened.
 -- Assumes nothing.
-use borrow.Author.Rules.{rules}
 use Rattle.card_acks.proofs.finish.InPlace.{finished-before}
 use Rattle.card_acks.proofs.finish.marked_before.Goals as goal
 

@@ -1,15 +1,11 @@
 -- `marked_now`: mark by mark, of the transactions opened.
 -- Assumes nothing.
 use mathlib.Core.Path.{sym, ◌∙◌}
-use mathlib.Core.Logic.{⊎_elim}
-use Prim.Native.Nat.{◌-◌}
-use native.Mathlib.Omega.{arith}
-use borrow.Author.Rules.{rules}
-use Rattle.bitmap.proofs.Marks.{MarkedUpTo, none-marked, one_more}
-use Rattle.card.specs.Sendings.{finished_by}
+use Rattle.bitmap.proofs.Marks.{none-marked, one_more}
 use Rattle.card_words.specs.Words.{card_of}
 use Rattle.card_acks.proofs.finish.InPlace.{within-32, one-is, finished-all, finished-is, lowest-is, looked-at}
 use Rattle.card_acks.proofs.finish.marked_now.Goals as goal
+use Rattle.card_acks.proofs.finish.marked_now.Goals.{then-is_finished, else-is_finished}
 
 pub loop-i-init : goal.loop-i-init
 loop-i-init c = none-marked 32 _
@@ -23,7 +19,10 @@ loop-i-preserved c =
     (within-32 (card_of w).sendings a.from.0 a.base.0 _ most _ c.loop-i-test.true)
     (c.is_finished.ensures
     ∙ one-is (card_of w).sendings a.from.0 a.base.0 _ most _ _ _ c.loop-i-test.true (finished-is w _ c.head_of-h.ensures) (lowest-is w _ c.head_of-h.ensures))
-    (⊎_elim (λ t. t.2 ∙ t.1.ensures ∙ sym (rw t.0.taken)) (λ c.loop-i-test.true. c.loop-i-test.true.1 ∙ sym (rw c.loop-i-test.true.0.left)) c.if-is_finished.branch)
+    (elim c.if-is_finished.branch [
+      | then-is_finished w ↦ w.finished-is ∙ w.with_mark-finished.ensures ∙ sym (rw w.if-is_finished.true)
+      | else-is_finished w ↦ w.finished-is ∙ sym (rw w.if-is_finished.false)
+    ])
 
 pub returns : goal.returns
 returns c =

@@ -3,7 +3,6 @@
 use native.Mathlib.Omega.{arith}
 use mathlib.Core.Path.{◌∙◌}
 use Rattle.wire.proofs.Format.{header-after}
-use borrow.Author.Rules.{rules}
 use Rattle.card_build.proofs.admit.header_offset.Goals as goal
 
 pub returns : goal.returns

@@ -9,7 +9,6 @@ use lib.ListN.{length}
 use Rattle.wire.specs.Format.{next_header}
 use Rattle.wire.proofs.Format.{next-gap}
 use Rattle.card_build.proofs.admit.Limits.{past-limit}
-use borrow.Author.Rules.{rules}
 use Rattle.card_build.proofs.admit.is_past_limit.Goals as goal
 
 pub overflow_add-start : goal.overflow_add-start

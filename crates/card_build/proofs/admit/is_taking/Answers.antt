@@ -1,7 +1,6 @@
 -- `is_taking`: opened, and not all of its messages are added.
 -- Assumes nothing.
 use Rattle.card_build.proofs.admit.InPlace.{takes_none, takes-some}
-use borrow.Author.Rules.{rules}
 use Rattle.card_build.proofs.admit.is_taking.Goals as goal
 
 pub returns-then-distance : goal.returns-then-distance

@@ -1,9 +1,6 @@
 -- `clear`: word by word.
 -- Assumes nothing.
-use Prim.Native.Nat.{◌-◌}
-use native.Mathlib.Omega.{arith}
-use lib.ListN.{length}
-use Rattle.card_build.proofs.opening.Opening.{Cleared, none-cleared, one-cleared, all-cleared}
+use Rattle.card_build.proofs.opening.Opening.{none-cleared, one-cleared, all-cleared}
 use Rattle.card_build.proofs.opening.clear.Goals as goal
 
 pub loop-i-init : goal.loop-i-init

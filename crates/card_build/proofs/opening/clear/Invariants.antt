@@ -1,9 +1,8 @@
 -- `clear`: word by word.
 -- Assumes nothing.
 use Prim.Native.Nat.{◌-◌}
-use native.Mathlib.Omega.{arith}
 use lib.ListN.{length}
-use Rattle.card_build.proofs.opening.Opening.{Cleared, none-cleared, one-cleared, all-cleared}
+use Rattle.card_build.proofs.opening.Opening.{Cleared}
 use Rattle.card_build.proofs.opening.clear.Given as goal
 
 abbrev pub invariant-loop-i : goal.invariant-loop-i

@@ -1,7 +1,6 @@
 -- `before_held`: the run of acknowledged frames, among those not released.
 -- Assumes nothing.
 use Rattle.card_send.proofs.choose.Choosing.{before-is}
-use borrow.Author.Rules.{rules}
 use Rattle.card_send.proofs.choose.before_held.Goals as goal
 
 pub returns : goal.returns

@@ -2,7 +2,6 @@
 -- Assumes nothing.
 use mathlib.Core.Path.{sym, ◌∙◌}
 use Rattle.card_send.proofs.choose.Choosing.{chosen_none, chosen-some}
-use borrow.Author.Rules.{rules}
 use Rattle.card_send.proofs.choose.choose_next.Goals as goal
 
 pub returns-then-choose_refusal-ne0 : goal.returns-then-choose_refusal-ne0

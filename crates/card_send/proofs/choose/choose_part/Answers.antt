@@ -3,7 +3,6 @@
 use mathlib.Core.Path.{sym, ◌∙◌}
 use borrow.Author.Tests.{eq-eqb, ne_eqb}
 use Rattle.card_send.specs.Choices.{chosen_part}
-use borrow.Author.Rules.{rules}
 use Rattle.card_send.proofs.choose.choose_part.Goals as goal
 
 pub returns-then-refusal-ne0 : goal.returns-then-refusal-ne0

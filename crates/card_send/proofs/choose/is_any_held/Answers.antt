@@ -1,7 +1,6 @@
 -- `is_any_held`: not all that are not released are acknowledged.
 -- Assumes nothing.
 use Rattle.card_send.proofs.choose.Choosing.{any-is}
-use borrow.Author.Rules.{rules}
 use Rattle.card_send.proofs.choose.is_any_held.Goals as goal
 
 pub returns : goal.returns

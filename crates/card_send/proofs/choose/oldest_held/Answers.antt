@@ -1,7 +1,6 @@
 -- `oldest_held`: past the acknowledged ones.
 -- Assumes nothing.
 use Rattle.card_send.proofs.choose.Choosing.{oldest-is}
-use borrow.Author.Rules.{rules}
 use Rattle.card_send.proofs.choose.oldest_held.Goals as goal
 
 pub returns : goal.returns

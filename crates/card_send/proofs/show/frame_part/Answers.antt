@@ -1,7 +1,6 @@
 -- `frame_part`: the slot's start and the frame's length, where they lie in the slots.
 -- Assumes nothing.
 use Rattle.card_send.proofs.show.Parts.{frame-inside, frame-outside}
-use borrow.Author.Rules.{rules}
 use Rattle.card_send.proofs.show.frame_part.Goals as goal
 
 pub returns-then-offset-len : goal.returns-then-offset-len

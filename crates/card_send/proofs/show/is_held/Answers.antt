@@ -1,7 +1,6 @@
 -- `is_held`: sealed, and its mark is clear.
 -- Assumes nothing.
 use Rattle.card_send.proofs.show.Parts.{not-sealed, sealed-held}
-use borrow.Author.Rules.{rules}
 use Rattle.card_send.proofs.show.is_held.Goals as goal
 
 pub returns-then-distance-d : goal.returns-then-distance-d

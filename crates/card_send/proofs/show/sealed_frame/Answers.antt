@@ -4,7 +4,6 @@ use native.Mathlib.Nat.{add-sub_cancel_left}
 use native.Mathlib.Omega.{arith}
 use Rattle.card_words.specs.Words.{card_of}
 use Rattle.card_send.proofs.show.Parts.{lies-inside}
-use borrow.Author.Rules.{rules}
 use Rattle.card_send.proofs.show.sealed_frame.Goals as goal
 
 pub overflow_add-end : goal.overflow_add-end

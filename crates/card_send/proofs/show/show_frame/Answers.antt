@@ -2,7 +2,6 @@
 -- Assumes nothing.
 use mathlib.Core.Path.{◌∙◌}
 use Rattle.card_send.proofs.show.Parts.{shown-none, shown-some}
-use borrow.Author.Rules.{rules}
 use Rattle.card_send.proofs.show.show_frame.Goals as goal
 
 pub returns-then-show_refusal-ne0 : goal.returns-then-show_refusal-ne0

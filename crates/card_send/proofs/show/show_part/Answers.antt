@@ -2,7 +2,6 @@
 -- Assumes nothing.
 use borrow.Author.Tests.{eq-eqb, ne_eqb}
 use Rattle.card_send.specs.Parts.{shown_part}
-use borrow.Author.Rules.{rules}
 use Rattle.card_send.proofs.show.show_part.Goals as goal
 
 pub returns-then-refusal-ne0 : goal.returns-then-refusal-ne0
