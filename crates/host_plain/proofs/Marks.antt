@@ -1,6 +1,6 @@
 -- Laws of windows of marks, of any length: moving along, and the leading_set of set marks. And the loops that move them.
 -- Assumes nothing.
-use Rattle.std.proofs.Common.{◌≡◌, ℕ, zero, suc, ◌+◌, ◌<◌, ◌≤◌, Bool, true, false, ◌≢◌, List, [], ◌∷◌, ◌++◌, length, get_or, drop, set, replicate, sym, refl, ap, ◌∙◌, true≢false, suc-add, zero-add, add-one, arith, length-append, length-drop, length-set, get_or-set_other, get_or-set_same, ext_get_or}
+use Rattle.std.proofs.Common.{◌≡◌, ℕ, zero, suc, ◌+◌, ◌<◌, ◌≤◌, Bool, true, false, List, [], ◌∷◌, ◌++◌, length, get_or, drop, set, replicate, sym, refl, ap, ◌∙◌, true≢false, suc-add, zero-add, add-one, arith, length-append, length-drop, length-set, get_or-set_other, get_or-set_same, ext_get_or}
 use native.Mathlib.Decide.{dec_lt}
 use Rattle.host_plain.specs.Plain.{leading_set, moved_by}
 

@@ -1,13 +1,11 @@
 -- `host_plain::accept`: marked, and moved past the accepted ones.
 -- Assumes nothing.
-use Rattle.std.proofs.Common.{◌≡◌, length, arith, length-set, rules}
-use lib.ListN.{length-map}
+use Rattle.std.proofs.Common.{arith, length-set}
 use Rattle.host_plain.specs.Plain.{accepting}
 use Rattle.host_plain.proofs.accept.Goals as goal
 
 pub move_past_set-places-requires : goal.move_past_set-places-requires
 move_past_set-places-requires c =
-    let l : length c.args.frames.accepted ≡ 64 = simp length-map at c.well_formed.0.1.1.1.0.1.0.1 in
     simp length-set (omega arith, omega arith)
 
 pub returns : goal.returns

@@ -1,6 +1,5 @@
 -- `host_plain::acknowledge`: by the answer's kind.
 -- Assumes nothing.
-use Rattle.std.proofs.Common.{rules}
 use Rattle.host_plain.proofs.acknowledge.Goals as goal
 
 pub returns-in-Accepted : goal.returns-in-Accepted

@@ -1,6 +1,5 @@
 -- `host_plain::acknowledging`: the run's frame, due where the run is not 0.
 -- Assumes nothing.
-use Rattle.std.proofs.Common.{rules}
 use Rattle.host_plain.proofs.acknowledging.Goals as goal
 
 pub returns : goal.returns

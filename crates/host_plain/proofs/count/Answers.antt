@@ -1,6 +1,6 @@
 -- `host_plain::count`: each of the sums with the message.
 -- Assumes nothing.
-use Rattle.std.proofs.Common.{arith, rules}
+use Rattle.std.proofs.Common.{arith}
 use Rattle.host_plain.specs.Plain.{counted}
 use Rattle.host_plain.proofs.Messages.{byte-is, byte_le}
 use Rattle.host_plain.proofs.count.Goals as goal

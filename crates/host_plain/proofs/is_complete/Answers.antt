@@ -1,6 +1,6 @@
 -- `host_plain::is_complete`: the count, or one bare message for count 0.
 -- Assumes nothing.
-use Rattle.std.proofs.Common.{rules, eq-eqb, ne_eqb}
+use Rattle.std.proofs.Common.{eq-eqb, ne_eqb}
 use Rattle.host_plain.specs.Plain.{completes}
 use Rattle.host_plain.proofs.is_complete.Goals as goal
 

@@ -1,7 +1,6 @@
 -- `host_plain::is_settled`: the mark in the window, and else whether it is behind.
 -- Assumes nothing.
 use Rattle.host_plain.proofs.Receiving.{received-near, received-far}
-use Rattle.std.proofs.Common.{rules}
 use Rattle.host_plain.proofs.is_settled.Goals as goal
 
 pub returns-then-d-lt64 : goal.returns-then-d-lt64

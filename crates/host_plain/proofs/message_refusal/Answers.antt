@@ -1,6 +1,6 @@
 -- `host_plain::message_refusal`: the tests in the definition's order.
 -- Assumes nothing.
-use Rattle.std.proofs.Common.{⊎_elim, arith, rules}
+use Rattle.std.proofs.Common.{⊎_elim, arith, le-ltb, lt-ltb}
 use Rattle.host_plain.proofs.Messages.{
   refuse-7,
   refuse-8,
@@ -31,7 +31,7 @@ pub returns-then-len-gt0 : goal.returns-then-len-gt0
 returns-then-len-gt0 c =
     refuse-10 _ _ _ _ _ c.distance-d.ensures c.if-d-ge32.false
     c.if-t-d.false _ c.is_different.ensures c.if-is_different.false
-    c.else-h-eq0.true c.if-len-gt0.true-raw
+    c.if-h-eq0.true (lt-ltb 0 c.args.len c.if-len-gt0.true)
 
 pub returns-then-size-h : goal.returns-then-size-h
 returns-then-size-h c =
@@ -39,8 +39,8 @@ returns-then-size-h c =
     refuse-11 _ _ _ _ _ c.distance-d.ensures c.if-d-ge32.false
     c.if-t-d.false _ c.is_different.ensures
     c.if-is_different.false
-    (⊎_elim (λ w. no-data a.h.count a.len w.1.left) (λ w. not-bare a.h.count a.len w.left)
-    c.else-h-eq0.branch)
+    (⊎_elim (λ w. no-data a.h.count a.len (le-ltb 0 a.len w.1)) (λ w. not-bare a.h.count a.len w)
+    c.else-h-eq0.either)
     (omega (arith, c.if-size-h.true))
 
 pub returns-then-size-h-2 : goal.returns-then-size-h-2
@@ -49,8 +49,8 @@ returns-then-size-h-2 c =
     refuse-12 _ _ _ _ _ c.distance-d.ensures c.if-d-ge32.false c.if-t-d.false _
     c.is_different.ensures
     c.if-is_different.false
-    (⊎_elim (λ w. no-data a.h.count a.len w.1.left) (λ w. not-bare a.h.count a.len w.left)
-    c.else-h-eq0.branch)
+    (⊎_elim (λ w. no-data a.h.count a.len (le-ltb 0 a.len w.1)) (λ w. not-bare a.h.count a.len w)
+    c.else-h-eq0.either)
     (omega (arith, c.if-size-h.false)) (omega (arith, c.if-size-h-2.true))
 
 pub returns : goal.returns
@@ -59,6 +59,6 @@ returns c =
     refuse-none _ _ _ _ _ c.distance-d.ensures c.if-d-ge32.false c.if-t-d.false _
     c.is_different.ensures
     c.if-is_different.false
-    (⊎_elim (λ w. no-data a.h.count a.len w.1.left) (λ w. not-bare a.h.count a.len w.left)
-    c.else-h-eq0.branch)
+    (⊎_elim (λ w. no-data a.h.count a.len (le-ltb 0 a.len w.1)) (λ w. not-bare a.h.count a.len w)
+    c.else-h-eq0.either)
     (omega (arith, c.if-size-h.false)) (omega (arith, c.if-size-h-2.false))

@@ -1,7 +1,7 @@
 -- `host_plain::move_one` moves the marks one after another.
 -- Assumes nothing.
-use Rattle.std.proofs.Common.{◌-◌, ◌∙◌, arith, length-set}
-use Rattle.host_plain.proofs.Marks.{Moving, moving-start, moving-turn, moving-done}
+use Rattle.std.proofs.Common.{arith}
+use Rattle.host_plain.proofs.Marks.{moving-start, moving-turn, moving-done}
 use Rattle.host_plain.proofs.move_one.Goals as goal
 
 pub loop-i-init : goal.loop-i-init

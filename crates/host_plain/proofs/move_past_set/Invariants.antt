@@ -1,8 +1,7 @@
 -- `host_plain::move_past_set` moves the marks place by place, as long as the first is set.
 -- Assumes nothing.
-use Rattle.std.proofs.Common.{arith}
 use Rattle.host_plain.specs.Plain.{leading_set}
-use Rattle.host_plain.proofs.Marks.{set-le, Passing, passing-start, passing-turn, passing-done}
+use Rattle.host_plain.proofs.Marks.{Passing}
 use Rattle.host_plain.proofs.move_past_set.Given as goal
 
 abbrev pub invariant-loop-marks : goal.invariant-loop-marks

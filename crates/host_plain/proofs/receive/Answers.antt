@@ -1,6 +1,6 @@
 -- `host_plain::receive`: the rules in their order.
 -- Assumes nothing.
-use Rattle.std.proofs.Common.{sym, ap, ◌∙◌, rules}
+use Rattle.std.proofs.Common.{sym, ap, ◌∙◌}
 use Rattle.wire.proofs.Reading.{readable}
 use Rattle.host_plain.specs.Plain.{Received, stepped_of}
 use Rattle.host_plain.proofs.Receiving.{

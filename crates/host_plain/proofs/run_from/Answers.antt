@@ -1,8 +1,8 @@
 -- `host_plain::run_from` counts number after number.
 -- Assumes nothing.
-use Rattle.std.proofs.Common.{◌-◌, sym, ◌∙◌, arith, rules}
+use Rattle.std.proofs.Common.{sym, ◌∙◌}
 use borrow.Author.Tests.{not-true, not-false}
-use Rattle.host_plain.proofs.Receiving.{Counting, counting-start, counting-stops, counting-full, counting-on}
+use Rattle.host_plain.proofs.Receiving.{counting-start, counting-stops, counting-full, counting-on}
 use Rattle.host_plain.proofs.run_from.Goals as goal
 
 pub loop-run-init : goal.loop-run-init

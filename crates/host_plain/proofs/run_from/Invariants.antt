@@ -1,8 +1,7 @@
 -- `host_plain::run_from` counts number after number.
 -- Assumes nothing.
-use Rattle.std.proofs.Common.{◌-◌, sym, ◌∙◌, arith, rules}
-use borrow.Author.Tests.{not-true, not-false}
-use Rattle.host_plain.proofs.Receiving.{Counting, counting-start, counting-stops, counting-full, counting-on}
+use Rattle.std.proofs.Common.{◌-◌}
+use Rattle.host_plain.proofs.Receiving.{Counting}
 use Rattle.host_plain.proofs.run_from.Given as goal
 
 abbrev pub invariant-loop-run : goal.invariant-loop-run

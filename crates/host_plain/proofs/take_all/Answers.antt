@@ -1,22 +1,11 @@
 -- `host_plain::take_all` goes through the messages one after another, as the definition does.
 -- Assumes nothing.
-use Rattle.std.proofs.Common.{◌+◌, ◌-◌, length, sym, ap, ◌∙◌, ⊎_elim, arith, rules}
-use borrow.Author.Tests.{not-true, not-false}
+use Rattle.std.proofs.Common.{sym, ◌∙◌, arith}
 use Rattle.wire_read.proofs.Finding.{is_whole}
 use Rattle.host_plain.proofs.Messages.{in_window}
-use Rattle.host_plain.proofs.Passes.{
-  Steady,
-  steady-start,
-  steady-turn,
-  Going,
-  going_start,
-  memory-length,
-  going-past,
-  going-stops,
-  going-ends,
-  going_on,
-}
+use Rattle.host_plain.proofs.Passes.{steady-start, steady-turn, going_start, going-past, going-stops, going-ends, going_on}
 use Rattle.host_plain.proofs.take_all.Goals as goal
+use Rattle.host_plain.proofs.take_all.Goals.{then-writing, else-writing}
 
 pub loop-refusal-init : goal.loop-refusal-init
 loop-refusal-init c = (steady-start _ c.requires, going_start _ _ _ _)
@@ -44,9 +33,11 @@ returns-then-not-more c =
     rw (c.count-sums.ensures, c.take_in-t.ensures)
     (going-ends c.loop-refusal.invariant.1 w _ c.message_refusal-refusal.ensures c.if-refusal-ne0.false _
     c.is_complete-done.ensures
-    (⊎_elim (λ w. w.6 ∙ w.3.ensures ∙ rw (w.2.ensures, w.0.taken)) (λ w. w.1 ∙ rw w.0.left)
-    c.if-writing.branch)
-    (not-true _ c.if-not-more.true-raw))
+    (elim c.if-writing.branch [
+      | then-writing w ↦ w.memory-is ∙ w.write_message.ensures ∙ rw (w.data_at.ensures, w.if-writing.true)
+      | else-writing w ↦ w.memory-is ∙ rw w.if-writing.false
+    ])
+    c.if-not-more.true)
 
 pub loop-refusal-smaller : goal.loop-refusal-smaller
 loop-refusal-smaller c =
@@ -60,7 +51,9 @@ loop-refusal-preserved c =
       steady-turn c.loop-refusal.invariant.0 w _,
       going_on c.loop-refusal.invariant.1 w _ c.message_refusal-refusal.ensures c.if-refusal-ne0.false _
           c.is_complete-done.ensures
-          (⊎_elim (λ w. w.6 ∙ w.3.ensures ∙ rw (w.2.ensures, w.0.taken)) (λ w. w.1 ∙ rw w.0.left)
-          c.if-writing.branch)
-          (not-false _ c.if-not-more.false-raw),
+          (elim c.if-writing.branch [
+            | then-writing w ↦ w.memory-is ∙ w.write_message.ensures ∙ rw (w.data_at.ensures, w.if-writing.true)
+            | else-writing w ↦ w.memory-is ∙ rw w.if-writing.false
+          ])
+          c.if-not-more.false,
     )

@@ -1,21 +1,7 @@
 -- `host_plain::take_all` goes through the messages one after another, as the definition does.
 -- Assumes nothing.
-use Rattle.std.proofs.Common.{◌+◌, ◌-◌, length, sym, ap, ◌∙◌, ⊎_elim, arith, rules}
-use borrow.Author.Tests.{not-true, not-false}
-use Rattle.wire_read.proofs.Finding.{is_whole}
-use Rattle.host_plain.proofs.Messages.{in_window}
-use Rattle.host_plain.proofs.Passes.{
-  Steady,
-  steady-start,
-  steady-turn,
-  Going,
-  going_start,
-  memory-length,
-  going-past,
-  going-stops,
-  going-ends,
-  going_on,
-}
+use Rattle.std.proofs.Common.{◌+◌, ◌-◌, length}
+use Rattle.host_plain.proofs.Passes.{Steady, Going}
 use Rattle.host_plain.proofs.take_all.Given as goal
 
 abbrev pub invariant-loop-refusal : goal.invariant-loop-refusal

@@ -1,6 +1,6 @@
 -- `host_plain::take_frame`: gone through without writing, and with writing where none is refused.
 -- Assumes nothing.
-use Rattle.std.proofs.Common.{refl, rules}
+use Rattle.std.proofs.Common.{refl}
 use Rattle.host_plain.proofs.Receiving.{stopped, took}
 use Rattle.host_plain.proofs.take_frame.Goals as goal
 

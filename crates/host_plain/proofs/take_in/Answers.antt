@@ -1,8 +1,7 @@
 -- `host_plain::take_in`: kept open, or marked as closed and the window moved.
 -- Assumes nothing.
-use Rattle.std.proofs.Common.{◌≡◌, length, sym, ◌∙◌, arith, length-set, rules}
+use Rattle.std.proofs.Common.{sym, ◌∙◌, arith, length-set}
 use borrow.Author.Tests.{not-true, not-false}
-use lib.ListN.{length-map}
 use Rattle.host_plain.specs.Plain.{keeping}
 use Rattle.host_plain.proofs.Messages.{closing-is, after-closing, after-keeping}
 use Rattle.host_plain.proofs.take_in.Goals as goal
@@ -16,7 +15,6 @@ returns-then-not-is_complete c =
 
 pub move_past_set-places-requires : goal.move_past_set-places-requires
 move_past_set-places-requires c =
-    let l : length c.args.t.closed ≡ 32 = simp length-map at c.well_formed.0.1.1.1.0.1.0.1 in
     simp length-set (omega arith, omega arith)
 
 pub returns : goal.returns

@@ -1,6 +1,6 @@
 -- `host_plain::write_message`: the data, and then the completion where it is due.
 -- Assumes nothing.
-use Rattle.std.proofs.Common.{◌∙◌, rules}
+use Rattle.std.proofs.Common.{◌∙◌}
 use Rattle.wire.specs.Format.{carrying}
 use Rattle.host_plain.specs.Plain.{effect}
 use Rattle.host_plain.proofs.write_message.Goals as goal
