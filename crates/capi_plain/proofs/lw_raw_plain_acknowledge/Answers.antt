@@ -5,9 +5,7 @@ use Rattle.capi_plain.proofs.lw_raw_plain_acknowledge.Goals as goal
 
 pub returns : goal.returns
 returns c =
-    let whole = rw (
-      c.acknowledge-ack.ensures,
-      c.plain_of_lem.ensures,
-      c.answer_of-a.ensures,
-    ) at (c.put_acknowledgement.ensures.value, c.put_acknowledgement.ensures.out_after) in
-    record { value = whole.0; frame_after = whole.1 }
+    record {
+      value = rw (← c.answer_of-a.ensures, ← c.plain_of.ensures, ← c.acknowledge-ack.ensures) c.put_acknowledgement.ensures.value;
+      frame_after = rw (← c.answer_of-a.ensures, ← c.plain_of.ensures, ← c.acknowledge-ack.ensures) c.put_acknowledgement.ensures.out_after;
+    }

@@ -14,7 +14,7 @@ put_open-end-requires c = puts-room c.loop-j.invariant c.loop-j-test.true
 
 pub loop-j-preserved : goal.loop-j-preserved
 loop-j-preserved c =
-    puts-turn c.loop-j.invariant c.loop-j-test.true _ _ c.put_open-end.auto.0
+    puts-turn c.loop-j.invariant c.loop-j-test.true _ _ c.put_open-end.auto.out
     c.put_open-end.ensures.value c.put_open-end.ensures.out_after
 
 pub returns : goal.returns

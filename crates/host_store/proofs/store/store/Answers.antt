@@ -35,7 +35,6 @@ put_opens-requires c =
     omega (
       arith,
       c.put_line-end.ensures.value,
-      c.put_line-end.auto.0,
       c.if-buffer-size.false,
       (counted _ _ c.count_open.ensures).0,
     )
