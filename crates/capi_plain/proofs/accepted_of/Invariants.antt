@@ -1,12 +1,10 @@
 -- `capi_plain::accepted_of` reads mark after mark.
 -- Assumes nothing.
-use mathlib.Core.Path.{refl}
 use mathlib.Core.Bool.{false, not}
 use Prim.Native.Nat.{◌+◌, ◌-◌}
-use native.Mathlib.Omega.{arith}
 use lib.Dec.{eqb}
-use Rattle.capi_plain.specs.Words.{word, marks_from}
-use Rattle.capi_plain.proofs.Filling.{Filling, filling-start, filling-turn, filling-done}
+use Rattle.capi_plain.specs.Words.{word}
+use Rattle.capi_plain.proofs.Filling.{Filling}
 use Rattle.capi_plain.proofs.accepted_of.Given as goal
 
 abbrev pub invariant-loop-i : goal.invariant-loop-i

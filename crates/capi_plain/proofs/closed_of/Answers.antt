@@ -1,12 +1,9 @@
 -- `capi_plain::closed_of` reads mark after mark.
 -- Assumes nothing.
 use mathlib.Core.Path.{refl}
-use mathlib.Core.Bool.{false, not}
-use Prim.Native.Nat.{◌+◌, ◌-◌}
 use native.Mathlib.Omega.{arith}
-use lib.Dec.{eqb}
-use Rattle.capi_plain.specs.Words.{word, marks_from}
-use Rattle.capi_plain.proofs.Filling.{Filling, filling-start, filling-turn, filling-done}
+use Rattle.capi_plain.specs.Words.{marks_from}
+use Rattle.capi_plain.proofs.Filling.{filling-start, filling-turn, filling-done}
 use Rattle.capi_plain.proofs.closed_of.Goals as goal
 
 pub loop-i-init : goal.loop-i-init

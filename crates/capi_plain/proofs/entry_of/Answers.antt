@@ -2,7 +2,6 @@
 -- Assumes nothing.
 use mathlib.Core.Path.{refl}
 use Rattle.capi_plain.specs.Words.{entry_at}
-use borrow.Author.Rules.{rules}
 use Rattle.capi_plain.proofs.entry_of.Goals as goal
 
 pub returns : goal.returns

@@ -2,7 +2,6 @@
 -- Assumes nothing.
 use borrow.Author.Tests.{eq-eqb, ne_eqb}
 use Rattle.capi_plain.specs.Words.{entry_word}
-use borrow.Author.Rules.{rules}
 use Rattle.capi_plain.proofs.entry_word.Goals as goal
 
 pub returns-then-k-eq0 : goal.returns-then-k-eq0

@@ -2,7 +2,6 @@
 -- Assumes nothing.
 use borrow.Author.Tests.{eq-eqb, ne_eqb}
 use Rattle.capi_plain.specs.Words.{head_word}
-use borrow.Author.Rules.{rules}
 use Rattle.capi_plain.proofs.head_word.Goals as goal
 
 pub returns-then-i-eq0 : goal.returns-then-i-eq0

@@ -1,6 +1,5 @@
 -- `capi_plain::lw_raw_plain_acknowledge`: what the plain host makes of the answer that its words tell.
 -- Assumes nothing.
-use borrow.Author.Rules.{rules}
 use Rattle.capi_plain.proofs.lw_raw_plain_acknowledge.Goals as goal
 
 pub returns : goal.returns

@@ -3,7 +3,6 @@
 use mathlib.Core.Path.{ap, ◌∙◌}
 use Rattle.host_plain.specs.declared.PlainOpened.{PlainOpened}
 use Rattle.capi_plain.specs.Words.{words_of}
-use borrow.Author.Rules.{rules}
 use Rattle.capi_plain.proofs.lw_raw_plain_open.Goals as goal
 
 pub returns : goal.returns

@@ -1,7 +1,6 @@
 -- `capi_plain::plain_of` reads numbers, marks and entries.
 -- Assumes nothing.
 use Rattle.capi_plain.specs.Words.{plain_of}
-use borrow.Author.Rules.{rules}
 use Rattle.capi_plain.proofs.plain_of.Goals as goal
 
 pub returns : goal.returns

@@ -1,11 +1,9 @@
 -- `capi_plain::table_of` reads entry after entry.
 -- Assumes nothing.
-use mathlib.Core.Path.{refl}
 use Prim.Native.Nat.{◌-◌}
-use native.Mathlib.Omega.{arith}
 use Rattle.host_plain.specs.Plain.{free}
-use Rattle.capi_plain.specs.Words.{entry_at, table_of}
-use Rattle.capi_plain.proofs.Filling.{Filling, filling-start, filling-turn, filling-done}
+use Rattle.capi_plain.specs.Words.{entry_at}
+use Rattle.capi_plain.proofs.Filling.{Filling}
 use Rattle.capi_plain.proofs.table_of.Given as goal
 
 abbrev pub invariant-loop-i : goal.invariant-loop-i

@@ -7,7 +7,6 @@ use lib.ListN.{get_or}
 use borrow.Author.Tests.{lt-ltb, le-ltb}
 use Rattle.host_plain.proofs.Messages.{byte-is}
 use Rattle.capi_plain.specs.Words.{word_at}
-use borrow.Author.Rules.{rules}
 use Rattle.capi_plain.proofs.word_at.Goals as goal
 
 pub returns-then-i-lt4 : goal.returns-then-i-lt4

@@ -1,10 +1,8 @@
 -- `capi_plain::words_of` writes word after word.
 -- Assumes nothing.
 use mathlib.Core.Path.{refl}
-use Prim.Native.Nat.{◌-◌}
-use native.Mathlib.Omega.{arith}
-use Rattle.capi_plain.specs.Words.{word_at, words_of}
-use Rattle.capi_plain.proofs.Filling.{Filling, filling-start, filling-turn, filling-done}
+use Rattle.capi_plain.specs.Words.{words_of}
+use Rattle.capi_plain.proofs.Filling.{filling-start, filling-turn, filling-done}
 use Rattle.capi_plain.proofs.words_of.Goals as goal
 
 pub loop-i-init : goal.loop-i-init

@@ -1,10 +1,8 @@
 -- `capi_plain::words_of` writes word after word.
 -- Assumes nothing.
-use mathlib.Core.Path.{refl}
 use Prim.Native.Nat.{◌-◌}
-use native.Mathlib.Omega.{arith}
-use Rattle.capi_plain.specs.Words.{word_at, words_of}
-use Rattle.capi_plain.proofs.Filling.{Filling, filling-start, filling-turn, filling-done}
+use Rattle.capi_plain.specs.Words.{word_at}
+use Rattle.capi_plain.proofs.Filling.{Filling}
 use Rattle.capi_plain.proofs.words_of.Given as goal
 
 abbrev pub invariant-loop-i : goal.invariant-loop-i

@@ -1,7 +1,6 @@
 -- `host_store::restore::digit_value`: the ranges of lower-case digits and what lies between them.
 -- Assumes nothing.
 use Rattle.host_store.proofs.restore.Reading.{below-digits, a-digit, between, a-letter, above-letters}
-use borrow.Author.Rules.{rules}
 use Rattle.host_store.proofs.restore.digit_value.Goals as goal
 
 pub returns-then-c-lt48 : goal.returns-then-c-lt48

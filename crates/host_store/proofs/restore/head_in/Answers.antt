@@ -1,7 +1,6 @@
 -- `host_store::restore::head_in`: the numbers of the first line, each where it stands.
 -- Assumes nothing.
 use Rattle.host_store.proofs.restore.Reading.{head-numbers}
-use borrow.Author.Rules.{rules}
 use Rattle.host_store.proofs.restore.head_in.Goals as goal
 
 pub returns : goal.returns

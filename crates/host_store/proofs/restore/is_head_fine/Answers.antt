@@ -1,7 +1,6 @@
 -- `host_store::restore::is_head_fine`: the conditions of the first line, in their order.
 -- Assumes nothing.
 use Rattle.host_store.proofs.restore.Reading.{own-zero, peer-zero, next-accepted, lowest-closed}
-use borrow.Author.Rules.{rules}
 use Rattle.host_store.proofs.restore.is_head_fine.Goals as goal
 
 pub returns-then-h-eq0 : goal.returns-then-h-eq0

@@ -1,7 +1,6 @@
 -- `host_store::restore::is_open_fine`: the conditions of an open transaction's line, in their order.
 -- Assumes nothing.
 use Rattle.host_store.proofs.restore.Reading.{none-received, none-to-come, outside, is-closed, by_order}
-use borrow.Author.Rules.{rules}
 use Rattle.host_store.proofs.restore.is_open_fine.Goals as goal
 
 pub returns-then-o-eq0 : goal.returns-then-o-eq0

@@ -3,14 +3,7 @@
 use mathlib.Core.Path.{refl}
 use Prim.Native.Nat.{◌+◌, ◌-◌}
 use native.Mathlib.Omega.{arith}
-use borrow.Author.Rules.{rules}
-use Rattle.host_store.proofs.restore.Reading.{
-  Numbered,
-  numbered-start,
-  numbered-room,
-  numbered-turn,
-  numbered-end,
-}
+use Rattle.host_store.proofs.restore.Reading.{numbered-start, numbered-room, numbered-turn, numbered-end}
 use Rattle.host_store.proofs.restore.number_in.Goals as goal
 
 pub loop-i-init : goal.loop-i-init

@@ -1,16 +1,6 @@
 -- `host_store::restore::number_in`: the number in the bytes read so far, from the last on.
 -- Assumes nothing.
-use mathlib.Core.Path.{refl}
-use Prim.Native.Nat.{◌+◌, ◌-◌}
-use native.Mathlib.Omega.{arith}
-use borrow.Author.Rules.{rules}
-use Rattle.host_store.proofs.restore.Reading.{
-  Numbered,
-  numbered-start,
-  numbered-room,
-  numbered-turn,
-  numbered-end,
-}
+use Rattle.host_store.proofs.restore.Reading.{Numbered}
 use Rattle.host_store.proofs.restore.number_in.Given as goal
 
 abbrev pub invariant-loop-i : goal.invariant-loop-i

@@ -1,7 +1,6 @@
 -- `host_store::restore::open_in`: the numbers of an open transaction's line, each where it stands.
 -- Assumes nothing.
 use Rattle.host_store.proofs.restore.Reading.{open-numbers}
-use borrow.Author.Rules.{rules}
 use Rattle.host_store.proofs.restore.open_in.Goals as goal
 
 pub returns : goal.returns

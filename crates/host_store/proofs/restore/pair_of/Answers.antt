@@ -3,7 +3,6 @@
 use mathlib.Core.Path.{◌∙◌}
 use borrow.Author.Tests.{not-true, not-false}
 use Rattle.host_store.proofs.restore.Restoring.{lines-bad, lines-fine}
-use borrow.Author.Rules.{rules}
 use Rattle.host_store.proofs.restore.pair_of.Goals as goal
 
 pub returns-then-not-lines : goal.returns-then-not-lines

@@ -12,7 +12,6 @@ use Rattle.host_store.proofs.restore.Restoring.{
   head-bad,
   by-opens,
 }
-use borrow.Author.Rules.{rules}
 use Rattle.host_store.proofs.restore.read.Goals as goal
 
 pub returns-then-text-lt-HEAD : goal.returns-then-text-lt-HEAD

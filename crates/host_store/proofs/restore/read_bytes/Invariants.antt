@@ -1,10 +1,8 @@
 -- `host_store::restore::read_bytes`: the bytes read so far stand before what is left to read.
 -- Assumes nothing.
 use Prim.Native.Nat.{◌-◌}
-use native.Mathlib.Omega.{arith}
-use borrow.Author.Rules.{rules}
 use lib.ListN.{length}
-use Rattle.host_store.proofs.restore.Reading.{Taken, taken_start, taken-high, taken-low, taken-turn, taken-end}
+use Rattle.host_store.proofs.restore.Reading.{Taken}
 use Rattle.host_store.proofs.restore.read_bytes.Given as goal
 
 abbrev pub invariant-loop-i : goal.invariant-loop-i

@@ -3,7 +3,6 @@
 use borrow.Author.Tests.{not-true, not-false}
 use Rattle.host_stored.specs.Form.{open_widths}
 use Rattle.host_store.proofs.restore.OpenLines.{line-none, line-some, open-total, bad-none, bad-line, good-line}
-use borrow.Author.Rules.{rules}
 use Rattle.host_store.proofs.restore.read_open.Goals as goal
 
 pub returns-then-not-read_bytes : goal.returns-then-not-read_bytes

@@ -3,7 +3,6 @@
 use mathlib.Core.Path.{ap}
 use Rattle.host.specs.declared.Opened.{Opened}
 use Rattle.host.specs.Host.{opened_of}
-use borrow.Author.Rules.{rules}
 use Rattle.host_store.proofs.restore.refused.Goals as goal
 
 pub returns : goal.returns

@@ -1,6 +1,5 @@
 -- `host_store::restore::restore`: what was read, put into the words.
 -- Assumes nothing.
-use borrow.Author.Rules.{rules}
 use Rattle.host_store.proofs.restore.restore.Goals as goal
 
 pub returns : goal.returns

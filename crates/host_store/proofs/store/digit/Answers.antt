@@ -2,7 +2,6 @@
 -- Assumes nothing.
 use borrow.Author.Tests.{lt-ltb, le-ltb}
 use Rattle.hexadecimal.specs.Fields.{digit_of}
-use borrow.Author.Rules.{rules}
 use Rattle.host_store.proofs.store.digit.Goals as goal
 
 pub returns-then-d-lt10 : goal.returns-then-d-lt10

@@ -5,7 +5,6 @@ use Rattle.octets.proofs.Octets.{byte_fits}
 use Rattle.hexadecimal.specs.Fields.{laid}
 use Rattle.host_words.specs.Words.{pair_of}
 use Rattle.host_store.proofs.store.Storing.{head-laid}
-use borrow.Author.Rules.{rules}
 use Rattle.host_store.proofs.store.head_bytes.Goals as goal
 
 pub overflow_cast-result : goal.overflow_cast-result

@@ -1,11 +1,9 @@
 -- `host_store::store::put_line`: two characters a byte, and a newline; the invariant says what is left to put.
 -- Assumes nothing.
 use mathlib.Core.Path.{refl}
-use Prim.Native.Nat.{◌-◌}
 use native.Mathlib.Omega.{arith}
-use borrow.Author.Rules.{rules}
-use lib.ListN.{length, length-set}
-use Rattle.host_store.proofs.store.Putting.{Put, put-start, put-turn, put-end}
+use lib.ListN.{length-set}
+use Rattle.host_store.proofs.store.Putting.{put-start, put-turn, put-end}
 use Rattle.host_store.proofs.store.put_line.Goals as goal
 
 pub loop-i-init : goal.loop-i-init

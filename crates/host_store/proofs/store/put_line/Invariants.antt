@@ -1,11 +1,8 @@
 -- `host_store::store::put_line`: two characters a byte, and a newline; the invariant says what is left to put.
 -- Assumes nothing.
-use mathlib.Core.Path.{refl}
 use Prim.Native.Nat.{◌-◌}
-use native.Mathlib.Omega.{arith}
-use borrow.Author.Rules.{rules}
-use lib.ListN.{length, length-set}
-use Rattle.host_store.proofs.store.Putting.{Put, put-start, put-turn, put-end}
+use lib.ListN.{length}
+use Rattle.host_store.proofs.store.Putting.{Put}
 use Rattle.host_store.proofs.store.put_line.Given as goal
 
 abbrev pub invariant-loop-i : goal.invariant-loop-i

@@ -3,7 +3,6 @@
 use native.Mathlib.Omega.{arith}
 use Rattle.host_words.specs.Words.{pair_of}
 use Rattle.host_store.proofs.store.Putting.{none-at, line-bytes, one_at, put-at}
-use borrow.Author.Rules.{rules}
 use Rattle.host_store.proofs.store.put_open.Goals as goal
 
 pub returns-then-o-eq0 : goal.returns-then-o-eq0

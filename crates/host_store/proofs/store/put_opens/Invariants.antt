@@ -1,9 +1,8 @@
 -- `host_store::store::put_opens`: the lines put so far and those that are left.
 -- Assumes nothing.
 use Prim.Native.Nat.{◌-◌}
-use borrow.Author.Rules.{rules}
 use Rattle.host_words.specs.Words.{pair_of}
-use Rattle.host_store.proofs.store.Putting.{Puts, puts-start, puts-room, puts-turn, puts-end}
+use Rattle.host_store.proofs.store.Putting.{Puts}
 use Rattle.host_store.proofs.store.put_opens.Given as goal
 
 abbrev pub invariant-loop-j : goal.invariant-loop-j

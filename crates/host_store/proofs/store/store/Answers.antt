@@ -5,7 +5,6 @@ use mathlib.Core.Path.{refl, sym, ◌∙◌}
 use native.Mathlib.Omega.{arith}
 use Rattle.host_store.proofs.store.Putting.{counted}
 use Rattle.host_store.proofs.store.Storing.{id-zero, too_short, fits}
-use borrow.Author.Rules.{rules}
 use Rattle.host_store.proofs.store.store.Goals as goal
 
 pub returns-then-own-eq0 : goal.returns-then-own-eq0
