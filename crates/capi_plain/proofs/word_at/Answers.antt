@@ -34,5 +34,6 @@ returns-then-i-lt100 c =
 pub returns : goal.returns
 unfolding word_at
 returns c =
+    let i = c.args.i in
     c.entry_word.ensures
-    ∙ rw (le-ltb c.args.i 4 c.if-i-lt4.false, le-ltb c.args.i 68 c.if-i-lt68.false, le-ltb c.args.i 100 c.if-i-lt100.false)
+    ∙ rw (le-ltb i 4 c.if-i-lt4.false, le-ltb i 68 c.if-i-lt68.false, le-ltb i 100 c.if-i-lt100.false)

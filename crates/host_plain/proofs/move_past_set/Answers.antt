@@ -7,12 +7,6 @@ use Rattle.host_plain.proofs.move_past_set.Goals as goal
 pub loop-marks-init : goal.loop-marks-init
 loop-marks-init c = passing-start _ c.requires.0
 
-pub bounds-marks-0 : goal.bounds-marks-0
-bounds-marks-0 c = omega (arith, c.loop-marks.invariant)
-
-pub move_one-requires : goal.move_one-requires
-move_one-requires c = omega (arith, c.loop-marks.invariant)
-
 pub overflow_add-places : goal.overflow_add-places
 overflow_add-places c = omega (arith, c.loop-marks.invariant, set-le c.args.marks.now, c.requires.1)
 

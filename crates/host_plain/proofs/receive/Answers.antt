@@ -16,7 +16,8 @@ pub returns-then-stop-ne0 : goal.returns-then-stop-ne0
 returns-then-stop-ne0 c =
     let a = c.args in
     let e = received-refused a.pair a.f.now a.memory.now _ c.refusal_of-stop.ensures
-    c.if-stop-ne0.true in record {
+    c.if-stop-ne0.true in
+    record {
       value = c.refuse.ensures ∙ sym (ap stepped_of e);
       memory_after = sym (ap (λ (r : Received). r.memory) e);
     }
@@ -26,7 +27,8 @@ returns-then-head-eq0 c =
     let a = c.args in
     let can = readable _ a.f.now (sym c.refusal_of-stop.ensures ∙ c.if-stop-ne0.false) in
     let e = received_none a.pair a.f.now a.memory.now can _ c.frame_header-head.ensures
-    c.if-head-eq0.true in record {
+    c.if-head-eq0.true in
+    record {
       value = sym (ap stepped_of e);
       memory_after = sym (ap (λ (r : Received). r.memory) e);
     }
@@ -35,9 +37,9 @@ pub returns-then-is_settled : goal.returns-then-is_settled
 returns-then-is_settled c =
     let a = c.args in
     let can = readable _ a.f.now (sym c.refusal_of-stop.ensures ∙ c.if-stop-ne0.false) in
-    let e =
-    received-again a.pair a.f.now a.memory.now can _ c.frame_header-head.ensures
-    c.if-head-eq0.false _ c.is_settled.ensures c.if-is_settled.true in record {
+    let e = received-again a.pair a.f.now a.memory.now can _ c.frame_header-head.ensures
+    c.if-head-eq0.false _ c.is_settled.ensures c.if-is_settled.true in
+    record {
       value = rw c.run_from.ensures (sym (ap stepped_of e));
       memory_after = sym (ap (λ (r : Received). r.memory) e);
     }
@@ -45,12 +47,11 @@ returns-then-is_settled c =
 pub returns-then-distance-ge64 : goal.returns-then-distance-ge64
 returns-then-distance-ge64 c =
     let a = c.args in
-    let can = readable _ a.f.now
-    (sym c.refusal_of-stop.ensures ∙ c.if-stop-ne0.false) in
-    let e =
-    received-ahead a.pair a.f.now a.memory.now can _ c.frame_header-head.ensures
+    let can = readable _ a.f.now (sym c.refusal_of-stop.ensures ∙ c.if-stop-ne0.false) in
+    let e = received-ahead a.pair a.f.now a.memory.now can _ c.frame_header-head.ensures
     c.if-head-eq0.false _ c.is_settled.ensures c.if-is_settled.false _ c.distance.ensures
-    c.if-distance-ge64.true in record {
+    c.if-distance-ge64.true in
+    record {
       value = c.refuse-then-distance-ge64.ensures ∙ sym (ap stepped_of e);
       memory_after = sym (ap (λ (r : Received). r.memory) e);
     }
@@ -58,15 +59,14 @@ returns-then-distance-ge64 c =
 pub take_frame-requires : goal.take_frame-requires
 take_frame-requires c =
     let a = c.args in
-    let can = readable _ a.f.now
-    (sym c.refusal_of-stop.ensures ∙ c.if-stop-ne0.false) in
+    let can = readable _ a.f.now (sym c.refusal_of-stop.ensures ∙ c.if-stop-ne0.false) in
     (can.most, rw (← c.distance.ensures) c.if-distance-ge64.false)
 
 pub returns : goal.returns
 returns c =
     let a = c.args in
-    let can = readable _ a.f.now
-    (sym c.refusal_of-stop.ensures ∙ c.if-stop-ne0.false) in let whole = received-taken a.pair a.f.now a.memory.now can _ c.frame_header-head.ensures
+    let can = readable _ a.f.now (sym c.refusal_of-stop.ensures ∙ c.if-stop-ne0.false) in
+    let whole = received-taken a.pair a.f.now a.memory.now can _ c.frame_header-head.ensures
     c.if-head-eq0.false _ c.is_settled.ensures c.if-is_settled.false _ c.distance.ensures
     c.if-distance-ge64.false _ _ c.take_frame.ensures in
     record { value = whole.0; memory_after = whole.1 }

@@ -2,21 +2,18 @@
 -- Assumes nothing.
 use Rattle.std.proofs.Common.{sym, ◌∙◌}
 use borrow.Author.Tests.{not-true, not-false}
-use Rattle.host_plain.proofs.Receiving.{counting-start, counting-stops, counting-full, counting-on}
+use Rattle.host_plain.proofs.Receiving.{counting-stops, counting-full, counting-on}
 use Rattle.host_plain.proofs.run_from.Goals as goal
-
-pub loop-run-init : goal.loop-run-init
-loop-run-init c = counting-start _ _
 
 pub returns-then-not-is_settled : goal.returns-then-not-is_settled
 returns-then-not-is_settled c =
     counting-stops c.loop-run.invariant
-    (sym c.is_settled.ensures ∙ not-true _ c.if-not-is_settled.true-raw)
+    (sym c.is_settled.ensures ∙ c.if-not-is_settled.true)
 
 pub loop-run-preserved : goal.loop-run-preserved
 loop-run-preserved c =
     counting-on c.loop-run.invariant c.loop-run-test.true
-    (sym c.is_settled.ensures ∙ not-false _ c.if-not-is_settled.false-raw) _ c.advance-number.ensures
+    (sym c.is_settled.ensures ∙ c.if-not-is_settled.false) _ c.advance-number.ensures
 
 pub returns : goal.returns
 returns c = counting-full c.loop-run.invariant c.loop-run-test.false

@@ -25,7 +25,8 @@ take_in-t-requires c = in_window _ _ _ _ _ c.message_refusal-refusal.ensures c.i
 
 pub count-sums-requires : goal.count-sums-requires
 count-sums-requires c =
-    (omega (arith, c.loop-refusal.invariant.0), omega (arith, c.loop-refusal.invariant.0), omega (arith, c.loop-refusal.invariant.0))
+    let s = c.loop-refusal.invariant.0 in
+    (omega (arith, s), omega (arith, s), omega (arith, s))
 
 pub returns-then-not-more : goal.returns-then-not-more
 returns-then-not-more c =

@@ -5,7 +5,9 @@ use Rattle.host_plain.proofs.Passes.{Steady, Going}
 use Rattle.host_plain.proofs.take_all.Given as goal
 
 abbrev pub invariant-loop-refusal : goal.invariant-loop-refusal
-invariant-loop-refusal l = Steady l.f l.at l.sums × Going l.f l.initial.memory l.writing l.initial.t l.memory l.t l.sums l.at
+invariant-loop-refusal l =
+    Steady l.f l.at l.sums
+    × Going l.f l.initial.memory l.writing l.initial.t l.memory l.t l.sums l.at
 
 abbrev pub decreases-loop-refusal : goal.decreases-loop-refusal
 decreases-loop-refusal l = length l.f + 18 - l.at

@@ -1,6 +1,6 @@
 -- `host_plain::take_in`: kept open, or marked as closed and the window moved.
 -- Assumes nothing.
-use Rattle.std.proofs.Common.{sym, ◌∙◌, arith, length-set}
+use Rattle.std.proofs.Common.{sym, ◌∙◌}
 use borrow.Author.Tests.{not-true, not-false}
 use Rattle.host_plain.specs.Plain.{keeping}
 use Rattle.host_plain.proofs.Messages.{closing-is, after-closing, after-keeping}
@@ -11,14 +11,11 @@ unfolding keeping
 returns-then-not-is_complete c =
     let a = c.args in
     rw c.wrapping_add_u16.ensures.value
-    (after-keeping a.t a.h (sym c.is_complete.ensures ∙ not-true _ c.if-not-is_complete.true-raw))
-
-pub move_past_set-places-requires : goal.move_past_set-places-requires
-move_past_set-places-requires c =
-    simp length-set (omega arith, omega arith)
+    (after-keeping a.t a.h (sym c.is_complete.ensures ∙ c.if-not-is_complete.true))
 
 pub returns : goal.returns
 returns c =
     let a = c.args in
-    closing-is a.t a.h _ _ _ _ c.distance.ensures c.move_past_set-places.ensures.value c.move_past_set-places.ensures.marks_after c.advance.ensures
-    ∙ after-closing a.t a.h (sym c.is_complete.ensures ∙ not-false _ c.if-not-is_complete.false-raw)
+    let moved = c.move_past_set-places.ensures in
+    closing-is a.t a.h _ _ _ _ c.distance.ensures moved.value moved.marks_after c.advance.ensures
+    ∙ after-closing a.t a.h (sym c.is_complete.ensures ∙ c.if-not-is_complete.false)

@@ -22,14 +22,14 @@ returns-then-not-read_bytes c =
     c.refused-then-not-read_bytes.ensures
     ∙ no_line 1 _
     (line-none head_widths _ c.read_bytes.new.bytes _ c.read_bytes.result head-total
-    c.read_bytes.ensures (not-true _ c.if-not-read_bytes.true-raw))
+    c.read_bytes.ensures c.if-not-read_bytes.true)
 
 pub returns-then-bytes-ne-VERSION : goal.returns-then-bytes-ne-VERSION
 returns-then-bytes-ne-VERSION c =
     c.refused-then-bytes-ne-VERSION.ensures
     ∙ other-version 1 _ _
     (line-some head_widths _ _ _ c.read_bytes.result head-total c.read_bytes.ensures
-    (not-false _ c.if-not-read_bytes.false-raw))
+    c.if-not-read_bytes.false)
     c.if-bytes-ne-VERSION.true
 
 pub returns-then-not-is_head_fine : goal.returns-then-not-is_head_fine
@@ -37,15 +37,15 @@ returns-then-not-is_head_fine c =
     c.refused-then-not-is_head_fine.ensures
     ∙ head-bad 1 _ _
     (line-some head_widths _ _ _ c.read_bytes.result head-total c.read_bytes.ensures
-    (not-false _ c.if-not-read_bytes.false-raw))
+    c.if-not-read_bytes.false)
     c.if-bytes-ne-VERSION.false _ c.head_in-head.ensures _ c.is_head_fine.ensures
-    (not-true _ c.if-not-is_head_fine.true-raw)
+    c.if-not-is_head_fine.true
 
 pub returns : goal.returns
 returns c =
     c.pair_of.ensures
     ∙ by-opens 1 _ _
     (line-some head_widths _ _ _ c.read_bytes.result head-total c.read_bytes.ensures
-    (not-false _ c.if-not-read_bytes.false-raw))
-    c.if-bytes-ne-VERSION.false _ c.head_in-head.ensures _ c.is_head_fine.ensures (not-false _ c.if-not-is_head_fine.false-raw) _
+    c.if-not-read_bytes.false)
+    c.if-bytes-ne-VERSION.false _ c.head_in-head.ensures _ c.is_head_fine.ensures c.if-not-is_head_fine.false _
     c.read_opens-lines.ensures

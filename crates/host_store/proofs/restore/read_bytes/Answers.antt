@@ -1,11 +1,8 @@
 -- `host_store::restore::read_bytes`: the bytes read so far stand before what is left to read.
 -- Assumes nothing.
 use native.Mathlib.Omega.{arith}
-use Rattle.host_store.proofs.restore.Reading.{taken_start, taken-high, taken-low, taken-turn, taken-end}
+use Rattle.host_store.proofs.restore.Reading.{taken-high, taken-low, taken-turn, taken-end}
 use Rattle.host_store.proofs.restore.read_bytes.Goals as goal
-
-pub loop-i-init : goal.loop-i-init
-loop-i-init c = taken_start _ _ _
 
 pub returns-then-high-gt15 : goal.returns-then-high-gt15
 returns-then-high-gt15 c =

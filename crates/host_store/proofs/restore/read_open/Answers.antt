@@ -9,22 +9,22 @@ pub returns-then-not-read_bytes : goal.returns-then-not-read_bytes
 returns-then-not-read_bytes c =
     bad-none _ _ _ _
     (line-none open_widths _ c.read_bytes.new.bytes _ c.read_bytes.result
-    open-total c.read_bytes.ensures (not-true _ c.if-not-read_bytes.true-raw))
+    open-total c.read_bytes.ensures c.if-not-read_bytes.true)
 
 pub returns-then-not-is_open_fine : goal.returns-then-not-is_open_fine
 returns-then-not-is_open_fine c =
     bad-line _ _ _ _ _ _ _ _
     (line-some open_widths _ _ _ c.read_bytes.result
     open-total c.read_bytes.ensures
-    (not-false _ c.if-not-read_bytes.false-raw))
+    c.if-not-read_bytes.false)
     c.number_in.ensures.0 c.open_in-entry.ensures
-    c.is_open_fine.ensures (not-true _ c.if-not-is_open_fine.true-raw)
+    c.is_open_fine.ensures c.if-not-is_open_fine.true
 
 pub returns : goal.returns
 returns c =
     good-line _ _ _ _ _ _ _ _
     (line-some open_widths _ _ _ c.read_bytes.result
     open-total c.read_bytes.ensures
-    (not-false _ c.if-not-read_bytes.false-raw))
+    c.if-not-read_bytes.false)
     c.number_in.ensures.0 c.open_in-entry.ensures
-    c.is_open_fine.ensures (not-false _ c.if-not-is_open_fine.false-raw)
+    c.is_open_fine.ensures c.if-not-is_open_fine.false

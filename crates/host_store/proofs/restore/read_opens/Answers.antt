@@ -4,7 +4,7 @@ use mathlib.Core.Path.{◌∙◌}
 use native.Mathlib.Omega.{arith}
 use borrow.Author.Tests.{not-true, not-false}
 use Rattle.host_stored.specs.Form.{empty_table}
-use Rattle.host_store.proofs.restore.OpenLines.{left-start, left-none, left-room, left-bad, left-inside, left-turn, left_end}
+use Rattle.host_store.proofs.restore.OpenLines.{left-start, left-none, left-bad, left-inside, left-turn, left_end}
 use Rattle.host_store.proofs.restore.read_opens.Goals as goal
 
 pub returns-then-text-ne0 : goal.returns-then-text-ne0
@@ -15,9 +15,6 @@ returns-then-text-ne0 c =
 pub loop-at-init : goal.loop-at-init
 unfolding empty_table
 loop-at-init c = left-start _ _ _ c.requires c.if-text-ne0.false
-
-pub read_open-line-requires : goal.read_open-line-requires
-read_open-line-requires c = left-room c.loop-at.invariant c.loop-at-test.true
 
 pub returns-then-not-line : goal.returns-then-not-line
 returns-then-not-line c =

@@ -1,10 +1,7 @@
 -- `host_store::store::put_opens`: the lines put so far and those that are left.
 -- Assumes nothing.
-use Rattle.host_store.proofs.store.Putting.{puts-start, puts-room, puts-turn, puts-end}
+use Rattle.host_store.proofs.store.Putting.{puts-room, puts-turn, puts-end}
 use Rattle.host_store.proofs.store.put_opens.Goals as goal
-
-pub loop-j-init : goal.loop-j-init
-loop-j-init c = puts-start _ _ _ c.requires
 
 pub put_open-end-requires : goal.put_open-end-requires
 put_open-end-requires c = puts-room c.loop-j.invariant c.loop-j-test.true

@@ -17,16 +17,13 @@ returns-then-peer-eq0 c =
     let whole = id-zero 1 _ _ _ (inr (sym c.peer.ensures ∙ c.if-peer-eq0.true)) c.refused-then-peer-eq0.ensures in
     record { value = whole.0; buffer_after = whole.1 }
 
-pub overflow_mul-size : goal.overflow_mul-size
-overflow_mul-size c = omega (arith, (counted _ _ c.count_open.ensures).1)
-
-pub overflow_add-size : goal.overflow_add-size
-overflow_add-size c = omega (arith, (counted _ _ c.count_open.ensures).1)
-
 pub returns-then-buffer-size : goal.returns-then-buffer-size
 returns-then-buffer-size c =
-    let whole = too_short 1 _ _ (λ z. c.if-own-eq0.false (c.own.ensures ∙ z)) (λ z. c.if-peer-eq0.false (c.peer.ensures ∙ z))
-    _ _ refl (counted _ _ c.count_open.ensures).0 _ c.if-buffer-size.true c.refused-then-buffer-size.ensures in
+    let whole =
+        too_short 1 _ _
+        (λ z. c.if-own-eq0.false (c.own.ensures ∙ z))
+        (λ z. c.if-peer-eq0.false (c.peer.ensures ∙ z))
+        _ _ refl (counted _ _ c.count_open.ensures).0 _ c.if-buffer-size.true c.refused-then-buffer-size.ensures in
     record { value = whole.0; buffer_after = whole.1 }
 
 pub put_opens-requires : goal.put_opens-requires
@@ -40,7 +37,10 @@ put_opens-requires c =
 
 pub returns : goal.returns
 returns c =
-    let whole = fits 1 _ _ (λ z. c.if-own-eq0.false (c.own.ensures ∙ z)) (λ z. c.if-peer-eq0.false (c.peer.ensures ∙ z)) _ _
-    refl (counted _ _ c.count_open.ensures).0 _ _ _ _ c.if-buffer-size.false c.head_bytes-head.ensures
-    c.put_line-end.ensures.value c.put_line-end.ensures.out_after c.put_opens.ensures in
+    let whole =
+        fits 1 _ _
+        (λ z. c.if-own-eq0.false (c.own.ensures ∙ z))
+        (λ z. c.if-peer-eq0.false (c.peer.ensures ∙ z))
+        _ _ refl (counted _ _ c.count_open.ensures).0 _ _ _ _ c.if-buffer-size.false c.head_bytes-head.ensures
+        c.put_line-end.ensures.value c.put_line-end.ensures.out_after c.put_opens.ensures in
     record { value = whole.0; buffer_after = whole.1 }
