@@ -23,7 +23,7 @@ put_place-requires c = (c.loop-k-test.true, c.loop-k.invariant.long)
 pub loop-k-preserved : goal.loop-k-preserved
 loop-k-preserved c =
     free-turn _ _ _ _ c.loop-k-test.true c.loop-k.invariant
-    c.put_place.auto.0 c.put_place.ensures
+    c.put_place.auto.words c.put_place.ensures
 
 pub returns-then-own-eq0 : goal.returns-then-own-eq0
 unfolding open_table

@@ -21,5 +21,5 @@ pub returns : goal.returns
 returns c =
     let a = c.args in
     placed a.words.now a.k a.source a.first a.size c.requires.0 c.requires.1 (omega arith)
-    (pair_at a.k + 67 - pair_at a.k) (omega arith) _ _ c.open_in_place.auto.0
+    (pair_at a.k + 67 - pair_at a.k) (omega arith) _ _ c.open_in_place.auto.w
     (λ l. (c.open_in_place.ensures.0 l).0)
