@@ -1,11 +1,9 @@
 -- `table_receive::find`: test by test.
 -- Assumes nothing.
-use Prim.Native.Nat.{ℕ, ◌+◌, ◌≤◌, ◌<◌}
+use Prim.Native.Nat.{◌+◌, ◌≤◌, ◌<◌}
 use native.Mathlib.Omega.{arith}
 use mathlib.Core.Path.{◌≡◌, sym, ◌∙◌, ap}
 use mathlib.Core.Logic.{◌≢◌}
-use mathlib.Core.List.{List}
-use lib.ListN.{length}
 use Rattle.wire.specs.Reading.{destination, source}
 use Rattle.table.specs.Table.{place_of}
 use Rattle.table_words.specs.TableWords.{entry_at, table_of}
@@ -23,7 +21,6 @@ use Rattle.table_receive.proofs.Finding.{
   cut,
   passes,
 }
-use borrow.Author.Rules.{rules}
 use Rattle.table_receive.proofs.find.Goals as goal
 
 pub returns-then-f-lt-FRAME_HEADER : goal.returns-then-f-lt-FRAME_HEADER

@@ -3,17 +3,10 @@
 -- Assumes nothing.
 use Prim.Native.Nat.{◌+◌, ◌-◌}
 use native.Mathlib.Omega.{arith}
-use mathlib.Core.Path.{◌≡◌, refl, sym, ◌∙◌}
-use lib.ListN.{length}
+use mathlib.Core.Path.{refl, sym, ◌∙◌}
 use Rattle.table_words.specs.TableWords.{pair_at}
-use Rattle.table_receive.specs.TableReceiving.{FoundAt}
 use Rattle.table_receive.proofs.Placing.{stays, arrived}
-use borrow.Author.Rules.{rules}
 use Rattle.table_receive.proofs.receive.Goals as goal
-
-pub returns-then-words-ne-TABLE_WORDS : goal.returns-then-words-ne-TABLE_WORDS
-returns-then-words-ne-TABLE_WORDS c =
-    (λ l. absurd (c.if-words-ne-TABLE_WORDS.true l), λ n. (refl, refl, c.refusing.ensures), λ q. refl)
 
 pub returns-then-reached-ne0 : goal.returns-then-reached-ne0
 returns-then-reached-ne0 c =
@@ -23,27 +16,6 @@ returns-then-reached-ne0 c =
       λ n. absurd (n c.if-words-ne-TABLE_WORDS.false),
       λ q. refl,
     )
-
-pub overflow_mul-at : goal.overflow_mul-at
-overflow_mul-at c = omega (arith, (c.find-reached.ensures.1 c.if-reached-ne0.false).inside)
-
-pub overflow_add-at : goal.overflow_add-at
-overflow_add-at c = omega (arith, (c.find-reached.ensures.1 c.if-reached-ne0.false).inside)
-
-pub overflow_add-stop : goal.overflow_add-stop
-overflow_add-stop c = omega (arith, (c.find-reached.ensures.1 c.if-reached-ne0.false).inside)
-
-pub overflow_add-end : goal.overflow_add-end
-overflow_add-end c = omega (arith, (c.find-reached.ensures.1 c.if-reached-ne0.false).lent)
-
-pub offset_bounds-words-at : goal.offset_bounds-words-at
-offset_bounds-words-at c = omega (arith, (c.find-reached.ensures.1 c.if-reached-ne0.false).inside)
-
-pub slice_bounds-receive_in_place-end : goal.slice_bounds-receive_in_place-end
-slice_bounds-receive_in_place-end c = omega (arith, (c.find-reached.ensures.1 c.if-reached-ne0.false).inside, c.if-words-ne-TABLE_WORDS.false)
-
-pub slice_bounds-receive_in_place-end-2 : goal.slice_bounds-receive_in_place-end-2
-slice_bounds-receive_in_place-end-2 c = omega (arith, (c.find-reached.ensures.1 c.if-reached-ne0.false).lent)
 
 pub returns : goal.returns
 returns c =

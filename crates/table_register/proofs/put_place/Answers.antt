@@ -2,20 +2,9 @@
 -- Assumes nothing.
 use Prim.Native.Nat.{◌+◌, ◌-◌}
 use native.Mathlib.Omega.{arith}
-use lib.ListN.{length-set}
 use Rattle.table_words.specs.TableWords.{pair_at}
-use Rattle.table_register.proofs.Changing.{placed-long, placed}
-use borrow.Author.Rules.{rules}
+use Rattle.table_register.proofs.Changing.{placed}
 use Rattle.table_register.proofs.put_place.Goals as goal
-
-pub bounds-words-k-2 : goal.bounds-words-k-2
-bounds-words-k-2 c = simp length-set (omega arith)
-
-pub bounds-words-k-3 : goal.bounds-words-k-3
-bounds-words-k-3 c = simp length-set (omega arith)
-
-pub slice_bounds-open_in_place-end : goal.slice_bounds-open_in_place-end
-slice_bounds-open_in_place-end c = simp length-set (omega arith)
 
 pub returns : goal.returns
 returns c =

@@ -1,8 +1,8 @@
 -- `table_register::register_refusal`: test by test.
 -- Assumes nothing.
-use Prim.Native.Nat.{ℕ, ◌+◌, ◌≤◌}
+use Prim.Native.Nat.{◌≤◌}
 use native.Mathlib.Omega.{arith}
-use mathlib.Core.Path.{◌≡◌, sym, ◌∙◌}
+use mathlib.Core.Path.{sym, ◌∙◌}
 use mathlib.Core.Logic.{◌≢◌}
 use Rattle.table.specs.Table.{place_of}
 use Rattle.table_words.specs.TableWords.{table_of}

@@ -2,21 +2,11 @@
 -- Assumes nothing.
 use native.Mathlib.Omega.{arith}
 use mathlib.Core.Path.{◌≡◌, refl, sym, ◌∙◌}
-use lib.ListN.{length}
 use Rattle.host_words.specs.Words.{pair_of}
 use Rattle.table_words.specs.TableWords.{table_of}
 use Rattle.table_register.proofs.Changing.{room-left}
 use Rattle.table_register.proofs.adopt.Adopting.{both_right, adopts, adopt-foreign, adopt-refused, adopt-done}
-use borrow.Author.Rules.{rules}
 use Rattle.table_register.proofs.adopt.adopt.Goals as goal
-
-pub returns-then-words-ne-TABLE_WORDS : goal.returns-then-words-ne-TABLE_WORDS
-returns-then-words-ne-TABLE_WORDS c =
-    adopts _ _ _ _ _ _ _ (λ p q. absurd (c.if-words-ne-TABLE_WORDS.true p)) (λ n. refl) (λ n. refl)
-
-pub returns-then-pair-ne-WORDS : goal.returns-then-pair-ne-WORDS
-returns-then-pair-ne-WORDS c =
-    adopts _ _ _ _ _ _ _ (λ p q. absurd (c.if-pair-ne-WORDS.true q)) (λ n. refl) (λ n. refl)
 
 pub returns-then-own : goal.returns-then-own
 returns-then-own c =
