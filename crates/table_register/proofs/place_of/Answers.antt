@@ -3,7 +3,6 @@
 use native.Mathlib.Omega.{arith}
 use mathlib.Core.Path.{◌∙◌}
 use Rattle.table_words.proofs.Indexing.{index-is-place}
-use borrow.Author.Rules.{rules}
 use Rattle.table_register.proofs.place_of.Goals as goal
 
 pub returns : goal.returns

@@ -3,16 +3,10 @@
 use native.Mathlib.Omega.{arith}
 use mathlib.Core.Path.{refl}
 use Rattle.table_register.proofs.Changing.{register-refused, room-left, register-done}
-use borrow.Author.Rules.{rules}
 use Rattle.table_register.proofs.register.Goals as goal
 
-pub returns-then-words-ne-TABLE_WORDS : goal.returns-then-words-ne-TABLE_WORDS
-returns-then-words-ne-TABLE_WORDS c =
-    ((λ l. absurd (c.if-words-ne-TABLE_WORDS.true l), λ n. (refl, refl)), λ q. refl)
-
 pub returns-then-refusal-ne0 : goal.returns-then-refusal-ne0
-returns-then-refusal-ne0 c =
-    (
+returns-then-refusal-ne0 c = (
   (
     λ l. register-refused _ _ _ _ _ _ c.register_refusal-refusal.ensures c.if-refusal-ne0.true,
     λ n. absurd (n c.if-words-ne-TABLE_WORDS.false),
@@ -26,12 +20,11 @@ put_place-requires c =
     (omega (arith, room, c.place_of-k.ensures), c.if-words-ne-TABLE_WORDS.false)
 
 pub returns : goal.returns
-returns c =
-    (
-      (
-        λ l. register-done _ _ _ _ _ _ c.register_refusal-refusal.ensures c.if-refusal-ne0.false _ _ _
-            c.own-own.ensures c.place_of-k.ensures c.put_place.ensures,
-        λ n. absurd (n c.if-words-ne-TABLE_WORDS.false),
-      ),
-      λ q. absurd (q refl),
-    )
+returns c = (
+  (
+    λ l. register-done _ _ _ _ _ _ c.register_refusal-refusal.ensures c.if-refusal-ne0.false _ _ _
+        c.own-own.ensures c.place_of-k.ensures c.put_place.ensures,
+    λ n. absurd (n c.if-words-ne-TABLE_WORDS.false),
+  ),
+  λ q. absurd (q refl),
+)

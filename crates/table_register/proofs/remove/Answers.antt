@@ -2,12 +2,7 @@
 -- Assumes nothing.
 use mathlib.Core.Path.{refl}
 use Rattle.table_register.proofs.Changing.{remove-none, remove-unknown, remove-done}
-use borrow.Author.Rules.{rules}
 use Rattle.table_register.proofs.remove.Goals as goal
-
-pub returns-then-words-ne-TABLE_WORDS : goal.returns-then-words-ne-TABLE_WORDS
-returns-then-words-ne-TABLE_WORDS c =
-    ((λ l. absurd (c.if-words-ne-TABLE_WORDS.true l), λ n. (refl, refl)), λ q. refl)
 
 pub returns-then-source-eq0 : goal.returns-then-source-eq0
 returns-then-source-eq0 c =

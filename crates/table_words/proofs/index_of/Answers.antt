@@ -1,15 +1,8 @@
 -- `table_words::index_of`: word by word.
 -- Assumes nothing.
-use Prim.Native.Nat.{◌-◌}
 use mathlib.Core.Path.{refl}
-use native.Mathlib.Omega.{arith}
-use lib.ListN.{length}
-use borrow.Author.Rules.{rules}
-use Rattle.table_words.proofs.Indexing.{Passed, passed_start, passed-turn, passed-found, passed-done}
+use Rattle.table_words.proofs.Indexing.{passed-turn, passed-found, passed-done}
 use Rattle.table_words.proofs.index_of.Goals as goal
-
-pub loop-k-init : goal.loop-k-init
-loop-k-init c = passed_start _ _
 
 pub returns-then-sources-k : goal.returns-then-sources-k
 returns-then-sources-k c =

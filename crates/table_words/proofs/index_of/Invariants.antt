@@ -1,11 +1,8 @@
 -- `table_words::index_of`: word by word.
 -- Assumes nothing.
 use Prim.Native.Nat.{◌-◌}
-use mathlib.Core.Path.{refl}
-use native.Mathlib.Omega.{arith}
 use lib.ListN.{length}
-use borrow.Author.Rules.{rules}
-use Rattle.table_words.proofs.Indexing.{Passed, passed_start, passed-turn, passed-found, passed-done}
+use Rattle.table_words.proofs.Indexing.{Passed}
 use Rattle.table_words.proofs.index_of.Given as goal
 
 abbrev pub invariant-loop-k : goal.invariant-loop-k

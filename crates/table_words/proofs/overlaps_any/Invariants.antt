@@ -1,9 +1,7 @@
 -- `table_words::overlaps_any`: place by place.
 -- Assumes nothing.
 use Prim.Native.Nat.{◌-◌}
-use native.Mathlib.Omega.{arith}
-use borrow.Author.Rules.{rules}
-use Rattle.table_words.proofs.Laws.{Clear, clear-start, clear-turn, clear-found, clear-done}
+use Rattle.table_words.proofs.Laws.{Clear}
 use Rattle.table_words.proofs.overlaps_any.Given as goal
 
 abbrev pub invariant-loop-k : goal.invariant-loop-k

@@ -1,9 +1,10 @@
 -- `table_words::overlaps_at`: both ends are held against both starts.
 -- Assumes nothing.
+use mathlib.Core.Path.{ap}
+use mathlib.Core.Bool.{not}
 use Rattle.table.specs.Reachable.{place}
 use Rattle.table_words.specs.TableWords.{table_of}
 use Rattle.table_words.proofs.Laws.{overlap-no, overlap-rest}
-use borrow.Author.Rules.{rules}
 use Rattle.table_words.proofs.overlaps_at.Goals as goal
 
 pub returns-then-not-before_end : goal.returns-then-not-before_end
@@ -11,11 +12,11 @@ returns-then-not-before_end c =
     let a = c.args in
     overlap-no a.first a.size _ _ (place (table_of a.w.now) a.k) _
     c.first_at-other.ensures c.size_at-len.ensures
-    c.before_end.ensures c.if-not-before_end.true-raw
+    c.before_end.ensures (ap not c.if-not-before_end.true)
 
 pub returns : goal.returns
 returns c =
     let a = c.args in
     overlap-rest a.first a.size _ _ (place (table_of a.w.now) a.k) _ _
     c.first_at-other.ensures c.size_at-len.ensures
-    c.before_end.ensures c.if-not-before_end.false-raw c.before_end-2.ensures
+    c.before_end.ensures (ap not c.if-not-before_end.false) c.before_end-2.ensures

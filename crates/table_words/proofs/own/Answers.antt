@@ -1,7 +1,6 @@
 -- `table_words::own` reads what the words hold.
 -- Assumes nothing.
 use Rattle.table_words.specs.TableWords.{table_of}
-use borrow.Author.Rules.{rules}
 use Rattle.table_words.proofs.own.Goals as goal
 
 pub returns : goal.returns

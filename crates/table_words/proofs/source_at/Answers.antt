@@ -3,7 +3,6 @@
 use mathlib.Core.Path.{sym, ap}
 use Rattle.table.specs.Table.{Entry}
 use Rattle.table_words.proofs.Laws.{table_at, table-past}
-use borrow.Author.Rules.{rules}
 use Rattle.table_words.proofs.source_at.Goals as goal
 
 pub returns-then-k-ge-PLACES : goal.returns-then-k-ge-PLACES

@@ -1,7 +1,6 @@
 -- `table_receive::acknowledge::source_of`: the field of the header, either way.
 -- Assumes nothing.
 use Rattle.wire_read.specs.Finding.{header_of}
-use borrow.Author.Rules.{rules}
 use Rattle.table_receive.proofs.acknowledge.source_of.Goals as goal
 
 pub returns-then-f-ge-FRAME_HEADER : goal.returns-then-f-ge-FRAME_HEADER

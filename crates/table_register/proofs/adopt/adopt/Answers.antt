@@ -2,30 +2,11 @@
 -- Assumes nothing.
 use native.Mathlib.Omega.{arith}
 use mathlib.Core.Path.{◌≡◌, refl, sym, ◌∙◌}
-use lib.ListN.{length}
 use Rattle.host_words.specs.Words.{pair_of}
 use Rattle.table_words.specs.TableWords.{table_of}
 use Rattle.table_register.proofs.Changing.{room-left}
 use Rattle.table_register.proofs.adopt.Adopting.{both_right, adopts, adopt-foreign, adopt-refused, adopt-done}
-use borrow.Author.Rules.{rules}
 use Rattle.table_register.proofs.adopt.adopt.Goals as goal
-
-  ours : (pair_of start.args.pair.now).own ≡ (table_of start.args.words.now).own
-  ours = sym owned.own.ensures ∙ e.before.before.before.if3.left ∙ named.own2.ensures
-
-  words_long : length start.args.words.now ≡ 1121
-  words_long = owned.before.before.if1.left
-
-  pair-long : length start.args.pair.now ≡ 67
-  pair-long = owned.before.if2.left
-
-pub returns-then-words-ne-TABLE_WORDS : goal.returns-then-words-ne-TABLE_WORDS
-returns-then-words-ne-TABLE_WORDS c =
-    adopts _ _ _ _ _ _ _ (λ p q. absurd (c.if-words-ne-TABLE_WORDS.true p)) (λ n. refl) (λ n. refl)
-
-pub returns-then-pair-ne-WORDS : goal.returns-then-pair-ne-WORDS
-returns-then-pair-ne-WORDS c =
-    adopts _ _ _ _ _ _ _ (λ p q. absurd (c.if-pair-ne-WORDS.true q)) (λ n. refl) (λ n. refl)
 
 pub returns-then-own : goal.returns-then-own
 returns-then-own c =
@@ -37,22 +18,26 @@ returns-then-own c =
 
 pub returns-then-refusal-ne0 : goal.returns-then-refusal-ne0
 returns-then-refusal-ne0 c =
-    let a = (start c).args in
+    let a = c.args in
+    let ours : (pair_of a.pair.now).own ≡ (table_of a.words.now).own =
+    sym c.own.ensures ∙ c.if-own.false ∙ c.own-2.ensures in
     adopts _ _ _ _ _ _ _
-    (λ p q. adopt-refused a.words.now a.pair.now a.first a.size a.memory (ours c) _
+    (λ p q. adopt-refused a.words.now a.pair.now a.first a.size a.memory ours _
     c.peer-source.ensures _ c.register_refusal-refusal.ensures c.if-refusal-ne0.true)
-    (both_right a.words.now a.pair.now (words_long c) (pair-long c)) (λ n. refl)
+    (both_right a.words.now a.pair.now c.if-words-ne-TABLE_WORDS.false c.if-pair-ne-WORDS.false) (λ n. refl)
 
 pub put_entry-requires : goal.put_entry-requires
 put_entry-requires c =
     let room = room-left _ _ _ _ _ _ c.register_refusal-refusal.ensures c.if-refusal-ne0.false in
-    (omega (arith, room, c.place_of-k.ensures), words_long c, pair-long c)
+    (omega (arith, room, c.place_of-k.ensures), c.if-words-ne-TABLE_WORDS.false, c.if-pair-ne-WORDS.false)
 
 pub returns : goal.returns
 returns c =
-    let a = (start c).args in
+    let a = c.args in
+    let ours : (pair_of a.pair.now).own ≡ (table_of a.words.now).own =
+    sym c.own.ensures ∙ c.if-own.false ∙ c.own-2.ensures in
     adopts _ _ _ _ _ _ _
-    (λ x y. adopt-done a.words.now a.pair.now a.first a.size a.memory (ours c) _
+    (λ x y. adopt-done a.words.now a.pair.now a.first a.size a.memory ours _
     c.peer-source.ensures _ c.register_refusal-refusal.ensures c.if-refusal-ne0.false _ _ c.place_of-k.ensures
     c.put_entry.ensures)
-    (both_right a.words.now a.pair.now (words_long c) (pair-long c)) (λ n. absurd (n refl))
+    (both_right a.words.now a.pair.now c.if-words-ne-TABLE_WORDS.false c.if-pair-ne-WORDS.false) (λ n. absurd (n refl))

@@ -1,10 +1,8 @@
 -- `table_register::adopt::copy_words`: word by word.
 -- Assumes nothing.
 use Prim.Native.Nat.{◌-◌}
-use native.Mathlib.Omega.{arith}
-use mathlib.Core.Path.{refl, sym, ◌∙◌}
 use lib.ListN.{length}
-use Rattle.table_register.proofs.adopt.Adopting.{Copied, copy_start, copy-turn, copy_done}
+use Rattle.table_register.proofs.adopt.Adopting.{Copied}
 use Rattle.table_register.proofs.adopt.copy_words.Given as goal
 
 abbrev pub invariant-loop-i : goal.invariant-loop-i

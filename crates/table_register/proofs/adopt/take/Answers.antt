@@ -5,16 +5,7 @@ use native.Mathlib.Omega.{arith}
 use mathlib.Core.Path.{refl}
 use Rattle.table_words.specs.TableWords.{pair_at}
 use Rattle.table_register.proofs.adopt.Adopting.{both_right, takes_out, take_none, take-unknown, taken}
-use borrow.Author.Rules.{rules}
 use Rattle.table_register.proofs.adopt.take.Goals as goal
-
-pub returns-then-words-ne-TABLE_WORDS : goal.returns-then-words-ne-TABLE_WORDS
-returns-then-words-ne-TABLE_WORDS c =
-    takes_out _ _ _ _ _ (λ p q. absurd (c.if-words-ne-TABLE_WORDS.true p)) (λ n. refl) (λ n. refl)
-
-pub returns-then-pair-ne-WORDS : goal.returns-then-pair-ne-WORDS
-returns-then-pair-ne-WORDS c =
-    takes_out _ _ _ _ _ (λ p q. absurd (c.if-pair-ne-WORDS.true q)) (λ n. refl) (λ n. refl)
 
 pub returns-then-source-eq0 : goal.returns-then-source-eq0
 returns-then-source-eq0 c =

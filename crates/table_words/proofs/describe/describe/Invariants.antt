@@ -1,10 +1,7 @@
 -- `table_words::describe::describe` stores our ID, and then the places in turn.
 -- Assumes nothing.
-use mathlib.Core.Path.{refl, sym}
 use Prim.Native.Nat.{◌-◌}
-use native.Mathlib.Omega.{arith}
-use borrow.Author.Rules.{rules}
-use Rattle.table_words.proofs.describe.Describing.{Storing, storing-start, storing-turn, storing-done}
+use Rattle.table_words.proofs.describe.Describing.{Storing}
 use Rattle.table_words.proofs.describe.describe.Given as goal
 
 abbrev pub invariant-loop-k : goal.invariant-loop-k
