@@ -1,6 +1,6 @@
 -- `replay_text::answer::put_line`: the text is made in a local array, and written whole or not at all.
 -- Assumes nothing.
-use Rattle.std.proofs.Common.{length, sym, ap, ◌∙◌, arith, rules}
+use Rattle.std.proofs.Common.{length, sym, ap, ◌∙◌, arith}
 use Rattle.replay_text.proofs.answer.AnswerLine.{too_many, line-inside, line-put, no_room}
 use Rattle.replay_text.proofs.answer.put_line.Goals as goal
 
