@@ -7,7 +7,6 @@ use lib.ListN.{length, take}
 use Rattle.host.specs.Host.{Received, unchanged, refused, receive_of}
 use Rattle.host_words.specs.Words.{pair_of}
 use Rattle.replay_text.specs.Report.{answered_line}
-use borrow.Author.Rules.{rules}
 use Rattle.replay_feed.proofs.answer_line.Goals as goal
 
 pub returns-then-number-ne0 : goal.returns-then-number-ne0

@@ -8,7 +8,6 @@ use lib.ListN.{length}
 use Rattle.host_words.specs.Words.{pair_of}
 use Rattle.replay_text.proofs.place.Words.{answered-left, closing-left}
 use Rattle.replay_text.proofs.place.Steps.{closed-bare, closed-line}
-use borrow.Author.Rules.{rules}
 use Rattle.replay_feed.proofs.close.Goals as goal
 
 pub returns-then-has_last : goal.returns-then-has_last

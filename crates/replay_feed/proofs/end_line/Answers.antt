@@ -1,6 +1,5 @@
 -- `replay_feed::end_line`: what the host says of the line being read, and one answer more.
 -- Assumes nothing.
-use borrow.Author.Rules.{rules}
 use Rattle.replay_feed.proofs.end_line.Goals as goal
 
 pub returns : goal.returns

@@ -8,7 +8,6 @@ use lib.ListN.{length}
 use Rattle.host_words.specs.Words.{pair_of}
 use Rattle.replay_text.proofs.place.Words.{answered-left, taking-left}
 use Rattle.replay_text.proofs.place.Steps.{fed-part, fed-line}
-use borrow.Author.Rules.{rules}
 use Rattle.replay_feed.proofs.feed.Goals as goal
 
 pub returns-then-got : goal.returns-then-got
