@@ -39,7 +39,8 @@ module _ (said : ℤ) (len : ℕ) (fits : SFits w64 said) where
       → ◌≡◌ {A = Got} (record { count = 0; failed = true }) (got_of said len)
   got-failed e = failed said len (ap (λ (z : ℤ). lt_z z (pos 0)) (sym back) ∙ e)
 
-  pub got-some : (n : ℕ) → lt_z (to_z w64 (of_z w64 said)) (pos 0) ≡ false → n ≡ clamp_len (to_z w64 (of_z w64 said)) len
+  pub got-some : (n : ℕ) → lt_z (to_z w64 (of_z w64 said)) (pos 0) ≡ false
+      → n ≡ clamp_len (to_z w64 (of_z w64 said)) len
       → ◌≡◌ {A = Got} (record { count = n; failed = false }) (got_of said len)
   got-some n e q =
       some said len n (ap (λ (z : ℤ). lt_z z (pos 0)) (sym back) ∙ e) (q ∙ ap (λ (z : ℤ). clamp_len z len) back)

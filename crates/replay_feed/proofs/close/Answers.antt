@@ -24,9 +24,11 @@ pub returns : goal.returns
 returns c =
     let a = c.args in
     let n : length a.frame.now ≡ 9000 = omega arith in
+    let end = c.close.ensures in
     let told =
     closed-bare a.place.now (pair_of a.words.now) a.frame.now a.memory.now (omega (arith, n))
-    (sym c.has_last.ensures ∙ c.if-has_last.false) _ _ (c.close.ensures.value, c.close.ensures.place_after) in
+    (sym c.has_last.ensures ∙ c.if-has_last.false) _ _ (end.value, end.place_after) in
     let left =
-    closing-left a.place.now _ _ (c.close.ensures.value, c.close.ensures.place_after) (λ (p : List ℕ). p ∷ a.words.now ∷ a.memory.now ∷ []) in
+    closing-left a.place.now _ _ (end.value, end.place_after)
+    (λ (p : List ℕ). p ∷ a.words.now ∷ a.memory.now ∷ []) in
     record { value = told.0; memory_after = told.1; left_if_closed = left }

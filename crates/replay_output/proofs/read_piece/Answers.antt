@@ -10,7 +10,8 @@ pub returns-in-Ok : goal.returns-in-Ok
 returns-in-Ok g c =
     let k = c.in-Ok.ensures in
     let n : c.in-Ok.count < 2 ^ 63 = omega (arith, k.bound.0) in
-    let e : c.got_of.result ≡ record { count = c.in-Ok.count; failed = false } = c.got_of.ensures ∙ got-count _ _ k.bound.0 n in
+    let e : c.got_of.result ≡ record { count = c.in-Ok.count; failed = false } =
+    c.got_of.ensures ∙ got-count _ _ k.bound.0 n in
     record {
       within = rw e k.bound.0;
       failure = λ f. absurd (true≢false (sym f ∙ ap (λ (r : Got). r.failed) e));

@@ -1,6 +1,5 @@
 -- `replay_plain_feed::end_line`: what the plain host says of the line being read, and one answer more.
 -- Assumes nothing.
-use borrow.Author.Rules.{rules}
 use Rattle.replay_plain_feed.proofs.end_line.Goals as goal
 
 pub returns : goal.returns

@@ -11,8 +11,11 @@ overflow_add-result-2 c =
 
 pub returns : goal.returns
 returns c =
-    let a = c.args in let whole = number_put a.text.now _ c.decimal-n.new.out a.at a.x c.decimal-n.result c.decimal-n.ensures.in_bounds.1
-    (few-digits c.decimal-n.result a.x c.ranges.x.fits c.decimal-n.ensures.len.2)
-    (c.decimal-n.ensures.digits ∙ decimal-is c.decimal-n.result a.x c.decimal-n.ensures.len.0 c.decimal-n.ensures.len.1 c.decimal-n.ensures.len.2)
+    let a = c.args in
+    let n = c.decimal-n.result in
+    let k = c.decimal-n.ensures in
+    let whole =
+    number_put a.text.now _ c.decimal-n.new.out a.at a.x n k.in_bounds.1 (few-digits n a.x c.ranges.x.fits k.len.2)
+    (k.digits ∙ decimal-is n a.x k.len.0 k.len.1 k.len.2)
     c.requires c.write.ensures.memory_after in
     record { value = whole.0; text_after = whole.1 }
