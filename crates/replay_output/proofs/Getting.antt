@@ -2,8 +2,9 @@
 -- Assumes nothing.
 use mathlib.Core.Path.{◌≡◌, refl, sym, ap, ◌∙◌}
 use mathlib.Core.Bool.{true, false, true≢false}
-use Prim.Native.Nat.{ℕ, ◌≤◌}
-use native.Mathlib.Nat.{min-le_right}
+use mathlib.Core.List.{List, []}
+use Prim.Native.Nat.{ℕ, ◌≤◌, ◌<◌, ◌^◌}
+use native.Mathlib.Nat.{min-eq_left, min-le_right}
 use native.Mathlib.Omega.{arith}
 use borrow.Author.Tests.{le-ltb}
 use lib.IntN.{ℤ, pos, negsuc}
@@ -11,6 +12,9 @@ use lib.Signed.{lt_z}
 use mir.Syntax.{w64}
 use mir.Val.{SFits, to_z, of_z}
 use mir.ValLaws.{to_z-of_z}
+use Rattle.std.proofs.Common.{Option, Some, None}
+use Rattle.std.proofs.lemmas.Int.{to_z_pos}
+use Rattle.std.specs.Io.KnownBytes.{Keeps, Consumes}
 use Rattle.io.specs.Counts.{clamp_len}
 use Rattle.replay_output.specs.declared.Got.{Got}
 use Rattle.replay_output.specs.Output.{got_of}
@@ -35,7 +39,8 @@ module _ (said : ℤ) (len : ℕ) (fits : SFits w64 said) where
       → ◌≡◌ {A = Got} (record { count = 0; failed = true }) (got_of said len)
   got-failed e = failed said len (ap (λ (z : ℤ). lt_z z (pos 0)) (sym back) ∙ e)
 
-  pub got-some : (n : ℕ) → lt_z (to_z w64 (of_z w64 said)) (pos 0) ≡ false → n ≡ clamp_len (to_z w64 (of_z w64 said)) len
+  pub got-some : (n : ℕ) → lt_z (to_z w64 (of_z w64 said)) (pos 0) ≡ false
+      → n ≡ clamp_len (to_z w64 (of_z w64 said)) len
       → ◌≡◌ {A = Got} (record { count = n; failed = false }) (got_of said len)
   got-some n e q =
       some said len n (ap (λ (z : ℤ). lt_z z (pos 0)) (sym back) ∙ e) (q ∙ ap (λ (z : ℤ). clamp_len z len) back)
@@ -48,3 +53,19 @@ within (negsuc k) len = omega arith
 
 pub got-within : (said : ℤ) (len : ℕ) (got : Got) → got ≡ got_of said len → got.count ≤ len
 got-within said len got e = rw e (within said len)
+
+-- a read that brought n bytes
+pub got-count : (n len : ℕ) → n ≤ len → n < 2 ^ 63
+    → ◌≡◌ {A = Got} (got_of (to_z w64 n) len) (record { count = n; failed = false })
+unfolding got_of
+got-count n len inside fits = rw (to_z_pos w64 n fits, min-eq_left inside)
+
+-- a read that failed
+pub got-error : (len : ℕ) → ◌≡◌ {A = Got} (got_of (negsuc 0) len) (record { count = 0; failed = true })
+unfolding got_of
+got-error len = refl
+
+pub nothing-consumed : (before after : Option (List ℕ)) → Keeps before after → Consumes before after []
+nothing-consumed None after k = k
+nothing-consumed (Some xs) None k = k
+nothing-consumed (Some xs) (Some ys) k = sym k

@@ -13,6 +13,10 @@ unfoldable pub got_of : ℤ → ℕ → Got
 got_of (pos k) len = record { count = min k len; failed = false }
 got_of (negsuc k) len = record { count = 0; failed = true }
 
+-- No more is to come.
+abbrev pub at_end : Got
+at_end = record { count = 0; failed = false }
+
 -- Nothing is kept, and nothing more is written.
 abbrev pub stopped : Room
 stopped = record { used = 0; failed = true }

@@ -1,15 +1,16 @@
 // Input and output of the programs that replay: what the answer of a read means, the buffer in which answers wait to
-// be written, and writing it. Assumes that write does what its page says. It promises as specs/Output.antt says;
-// whether bytes that are there can be written is the operating system's to say, and no promise says it.
+// be written, and writing it. What reads and what writes are lent. It promises as specs/Output.antt says; whether bytes
+// that are there can be written is the operating system's to say, and no promise says it.
 #![tactic(auto)]
 
-ghost use Rattle.std.specs.Prelude.{◌≡◌, [], ◌∷◌, length};
+ghost use Rattle.std.specs.Prelude.{◌≡◌, ◌<◌, ◌≤◌, true, [], ◌∷◌, length, take};
+ghost use Rattle.std.specs.Io.KnownBytes.{Consumes, IsAtEnd};
 ghost use Rattle.replay_text.specs.AnswerLine.{line_end, with_line};
-ghost use Rattle.replay_output.specs.Output.{got_of, stopped, room_after, out_after, Writes, Makes};
+ghost use Rattle.replay_output.specs.Output.{got_of, at_end, stopped, room_after, out_after, Writes, Makes};
 
-use libc::STDOUT_FILENO;
 use replay_text::line::Totals;
 use replay_text::{Reply, answer, line};
+use std::io::{Error, Read};
 
 // How much of the output buffer is used, and whether reading or writing failed, or an answer was lost.
 #[derive(Clone, Copy)]
@@ -25,12 +26,16 @@ pub struct Got {
     pub failed: bool,
 }
 
-// What the operating system's answer to a read into this piece means. A failure is said on standard error.
+// A line on standard error: what failed, and why. Where that can't be written, nothing else can tell it.
+fn say<E: Eprint>(rt: &E, what: &str, error: &Error) {
+    let _ = eprintln!(rt; "{what}: {error}");
+}
+
+// What the operating system's answer to a read into this piece means.
 pub fn got_of(said: isize, piece: &[u8]) -> Got
     ensures { result ≡ got_of said (length piece.now) }
 {
     if said < 0 {
-        os::fail(b"read");
         return Got {
             count: 0,
             failed: true,
@@ -42,26 +47,42 @@ pub fn got_of(said: isize, piece: &[u8]) -> Got
     }
 }
 
+// Reads into this piece, once. A failure is said on standard error, and nothing is read then.
+pub fn read_piece<E: Eprint, R: Read>(rt: &E, input: &mut R, piece: &mut [u8]) -> Got
+    ensures within { result.count ≤ length piece.new }
+    ensures failure { result.failed ≡ true → result.count ≡ 0 }
+    ensures brought { Consumes (R.remaining input.old) (R.remaining input.new) (take result.count piece.new) }
+    ensures end { result ≡ at_end → 0 < length piece.new → IsAtEnd (R.remaining input.new) }
+{
+    match input.read(piece) {
+        Ok(count) => got_of(count as isize, piece),
+        Err(error) => {
+            say(rt, "read", &error);
+            got_of(-1, piece)
+        }
+    }
+}
+
 // Writes the used part of the output buffer, and answers whether all of it is written. Where there is something to
-// write, that is the operating system's to say.
-pub fn write_out(out: &[u8], used: usize) -> bool
+// write, that is the operating system's to say. A failure is said on standard error.
+pub fn write_out<E: Print + Eprint>(rt: &E, out: &[u8], used: usize) -> bool
     ensures { Writes out.now used result }
 {
     if used == 0 {
         return true;
     }
     if used <= out.len() {
-        if io::write_all(STDOUT_FILENO, &out[..used]) {
-            return true;
+        match rt.write_all(&out[..used]) {
+            Ok(_) => return true,
+            Err(error) => say(rt, "write", &error),
         }
-        os::fail(b"write");
     }
     false
 }
 
 // The output buffer emptied where the next line might not fit. After a failure nothing more is written, so that the
 // output has no gap. Whether writing fails is what write_out says.
-pub fn make_room(out: &[u8], used: usize, failed: bool) -> Room
+pub fn make_room<E: Print + Eprint>(rt: &E, out: &[u8], used: usize, failed: bool) -> Room
     ensures { Makes out.now used failed result }
 {
     if failed {
@@ -76,7 +97,7 @@ pub fn make_room(out: &[u8], used: usize, failed: bool) -> Room
     if answer::LINE_MOST <= out.len() - used {
         return Room { used, failed };
     }
-    if write_out(out, used) {
+    if write_out(rt, out, used) {
         return Room { used: 0, failed };
     }
     Room {
@@ -115,11 +136,11 @@ pub fn put_totals(out: &mut [u8], at: usize, totals: Totals) -> usize
 }
 
 // Where the program stands once reading has failed: the answers so far are written, and it goes no further.
-pub fn stop(room: Room, out: &[u8]) -> Room
+pub fn stop<E: Print + Eprint>(rt: &E, room: Room, out: &[u8]) -> Room
     ensures { result ≡ stopped }
 {
     if !room.failed {
-        write_out(out, room.used);
+        write_out(rt, out, room.used);
     }
     Room {
         used: 0,

@@ -1,14 +1,17 @@
 // The sister of the program replay, which runs the plain host: the same input and the same output. It feeds what it
 // reads to the crate replay_plain_feed, piece by piece, and writes the text of what that answers; what a read brought,
 // and writing, are the crate replay_output's, as the first program's are.
-// Where reading or writing fails, that is said on standard error and no totals are written: a program has no exit
-// status, so it is the last line that tells a whole replay.
+// Where reading or writing fails, that is said on standard error and no totals are written: the exit status is 0 all
+// the same, so it is the last line that tells a whole replay.
 #![tactic(auto)]
 
 use host_plain::PlainPair;
-use libc::STDIN_FILENO;
 use replay_output::Room;
 use replay_text::place;
+use std::io::Read;
+
+// Bytes of a piece of the input, and of the output that waits.
+const PIECE: usize = 65536;
 
 // What a piece, or the whole input, leaves: the pair, and how far the output buffer is used.
 #[derive(Clone, Copy)]
@@ -19,7 +22,8 @@ struct Reached {
 
 // Feeds a piece until it is taken whole, and puts the answer of each line that ends in it into the output buffer. No
 // call on an open replay takes nothing of what is left; the test is there since a loop that is proved has to end.
-fn take_piece(
+fn take_piece<E: Print + Eprint>(
+    rt: &E,
     at_start: Reached,
     piece: &[u8],
     place: &mut [u64; 9],
@@ -43,7 +47,7 @@ fn take_piece(
         at += taken;
         pair = step.pair;
         let reply = fed.reply;
-        let made = replay_output::make_room(out, room.used, room.failed);
+        let made = replay_output::make_room(rt, out, room.used, room.failed);
         let next = replay_output::put_reply(out, made, reply);
         room = next;
     }
@@ -52,7 +56,9 @@ fn take_piece(
 
 // Takes in the input piece by piece, until it ends or enough lines are answered. A loop that is proved has to end, and
 // nothing says that the input does: no run uses these turns up.
-fn read_all(
+fn read_all<E: Print + Eprint, R: Read>(
+    rt: &E,
+    input: &mut R,
     opened: PlainPair,
     piece: &mut [u8],
     place: &mut [u64; 9],
@@ -65,20 +71,17 @@ fn read_all(
         used: 0,
         failed: false,
     };
-    let mut turns = u64::MAX;
-    while turns > 0 {
-        turns -= 1;
-        let said = libc::read(STDIN_FILENO, piece);
-        let got = replay_output::got_of(said, piece);
+    for _ in 0..u64::MAX {
+        let got = replay_output::read_piece(rt, input, piece);
         if got.failed {
-            let room = replay_output::stop(room, out);
+            let room = replay_output::stop(rt, room, out);
             return Reached { pair, room };
         }
         if got.count == 0 {
             return Reached { pair, room };
         }
         let before = Reached { pair, room };
-        let after = take_piece(before, &piece[..got.count], place, frame, memory, out);
+        let after = take_piece(rt, before, &piece[..got.count], place, frame, memory, out);
         pair = after.pair;
         room = after.room;
         if room.failed {
@@ -92,7 +95,8 @@ fn read_all(
 }
 
 // The last line, and then the totals.
-fn finish(
+fn finish<E: Print + Eprint>(
+    rt: &E,
     at_end: Reached,
     place: &mut [u64; 9],
     frame: &[u8; 9000],
@@ -105,24 +109,27 @@ fn finish(
     let closed = step.closed;
     let totals = closed.totals;
     let reply = closed.reply;
-    let made = replay_output::make_room(out, before.used, before.failed);
+    let made = replay_output::make_room(rt, out, before.used, before.failed);
     let last = replay_output::put_reply(out, made, reply);
-    let room = replay_output::make_room(out, last.used, last.failed);
+    let room = replay_output::make_room(rt, out, last.used, last.failed);
     if room.failed {
         return;
     }
     let used = replay_output::put_totals(out, room.used, totals);
-    replay_output::write_out(out, used);
+    replay_output::write_out(rt, out, used);
 }
 
-fn main() {
+fn main(rt: HostRuntime) {
     let mut place = [0u64; 9];
     let mut frame = [0u8; 9000];
     let mut memory = [0u8; 4096];
-    let mut piece = io::large_buffer();
-    let mut out = io::large_buffer();
+    let mut piece = [0u8; PIECE];
+    let mut out = [0u8; PIECE];
+    let mut input = rt.reader();
     let pair = replay_plain_feed::open(&mut place, &mut memory);
     let end = read_all(
+        &rt,
+        &mut input,
         pair,
         &mut piece,
         &mut place,
@@ -130,5 +137,5 @@ fn main() {
         &mut memory,
         &mut out,
     );
-    finish(end, &mut place, &frame, &mut memory, &mut out);
+    finish(&rt, end, &mut place, &frame, &mut memory, &mut out);
 }

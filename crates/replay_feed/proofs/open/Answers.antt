@@ -5,7 +5,6 @@ use native.Mathlib.Omega.{arith}
 use lib.ListN.{length}
 use Rattle.host.specs.Host.{opened_of}
 use Rattle.replay_text.proofs.place.Steps.{opens}
-use borrow.Author.Rules.{rules}
 use Rattle.replay_feed.proofs.open.Goals as goal
 
 pub returns : goal.returns

@@ -1,7 +1,7 @@
 -- `replay_text::answer::put_text` puts number behind number, and a newline behind the last.
 -- Assumes nothing.
-use Rattle.std.proofs.Common.{◌-◌, length, sym, ◌∙◌, arith, length-set, rules}
-use Rattle.replay_text.proofs.answer.AnswerLine.{Begun, begun-start, begun-turn, begun-done}
+use Rattle.std.proofs.Common.{arith}
+use Rattle.replay_text.proofs.answer.AnswerLine.{begun-start, begun-turn, begun-done}
 use Rattle.replay_text.proofs.answer.put_text.Goals as goal
 
 pub loop-i-init : goal.loop-i-init
@@ -18,7 +18,8 @@ overflow_add-i c = omega (arith, c.loop-i.invariant)
 
 pub loop-i-preserved : goal.loop-i-preserved
 loop-i-preserved c =
-    begun-turn c.loop-i.invariant _ _ c.loop-i-test.true c.put_number-n.ensures.value.0 c.put_number-n.ensures.value.1 c.put_number-n.ensures.text_after
+    let put = c.put_number-n.ensures in
+    begun-turn c.loop-i.invariant _ _ c.loop-i-test.true put.value.0 put.value.1 put.text_after
 
 pub bounds-text-n : goal.bounds-text-n
 bounds-text-n c = omega (arith, c.loop-i.invariant)

@@ -1,7 +1,7 @@
 -- `replay_text::answer::put_text` puts number behind number, and a newline behind the last.
 -- Assumes nothing.
-use Rattle.std.proofs.Common.{◌-◌, length, sym, ◌∙◌, arith, length-set, rules}
-use Rattle.replay_text.proofs.answer.AnswerLine.{Begun, begun-start, begun-turn, begun-done}
+use Rattle.std.proofs.Common.{◌-◌, length}
+use Rattle.replay_text.proofs.answer.AnswerLine.{Begun}
 use Rattle.replay_text.proofs.answer.put_text.Given as goal
 
 abbrev pub invariant-loop-i : goal.invariant-loop-i

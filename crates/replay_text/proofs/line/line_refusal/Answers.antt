@@ -1,6 +1,6 @@
 -- `replay_text::line::line_refusal`: 14, then 2.
 -- Assumes nothing.
-use Rattle.std.proofs.Common.{rules, le-ltb, lt-ltb}
+use Rattle.std.proofs.Common.{le-ltb, lt-ltb}
 use Rattle.replay_text.specs.Report.{line_refusal}
 use Rattle.replay_text.proofs.line.line_refusal.Goals as goal
 

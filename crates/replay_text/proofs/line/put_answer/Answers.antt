@@ -1,6 +1,5 @@
 -- `replay_text::line::put_answer`: the line of each answer.
 -- Assumes nothing.
-use Rattle.std.proofs.Common.{rules}
 use Rattle.replay_text.proofs.line.put_answer.Goals as goal
 
 pub returns-in-Accepted : goal.returns-in-Accepted

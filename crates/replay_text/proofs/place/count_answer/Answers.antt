@@ -1,6 +1,6 @@
 -- `replay_text::place::count_answer`: the totals, one line more, and no character yet.
 -- Assumes nothing.
-use Rattle.std.proofs.Common.{◌∙◌, rules}
+use Rattle.std.proofs.Common.{◌∙◌}
 use Rattle.replay_text.specs.Place.{counted}
 use Rattle.replay_text.proofs.place.count_answer.Goals as goal
 

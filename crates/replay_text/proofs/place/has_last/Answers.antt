@@ -1,6 +1,6 @@
 -- `replay_text::place::has_last`, case by case as the definition.
 -- Assumes nothing.
-use Rattle.std.proofs.Common.{not, ap, ◌∙◌, rules}
+use Rattle.std.proofs.Common.{not, ap, ◌∙◌}
 use Rattle.hexadecimal.specs.Taking.{empty_line}
 use Rattle.replay_text.proofs.place.Words.{last-closed, last-full, last_line}
 use Rattle.replay_text.proofs.place.has_last.Goals as goal

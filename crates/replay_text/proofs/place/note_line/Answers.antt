@@ -1,6 +1,6 @@
 -- `replay_text::place::note_line`: the same place with another line.
 -- Assumes nothing.
-use Rattle.std.proofs.Common.{◌∙◌, rules}
+use Rattle.std.proofs.Common.{◌∙◌}
 use Rattle.replay_text.specs.Place.{noted}
 use Rattle.replay_text.proofs.place.note_line.Goals as goal
 

@@ -1,6 +1,5 @@
 -- `replay_text::place::place_of`: the words one by one.
 -- Assumes nothing.
-use Rattle.std.proofs.Common.{rules}
 use Rattle.replay_text.proofs.place.place_of.Goals as goal
 
 pub returns : goal.returns

@@ -1,6 +1,5 @@
 -- `replay_text::line::Totals::with`: sums over accepted frames.
 -- Assumes nothing.
-use Rattle.std.proofs.Common.{rules}
 use Rattle.replay_text.proofs.line.Totals.with.Goals as goal
 
 pub returns-in-Accepted : goal.returns-in-Accepted
