@@ -8,8 +8,12 @@ use Rattle.capi.proofs.card_end.lw_raw_card_open_transaction.Goals as goal
 
 pub returns-then-opened-ne0 : goal.returns-then-opened-ne0
 returns-then-opened-ne0 c =
-    let whole = (c.open_transaction-opened.ensures.refusal_value, (c.open_transaction-opened.ensures.trans_value.1.0, (rw (ne_eqb _ 0 (λ q. c.if-opened-ne0.true (c.open_transaction-opened.ensures.refusal_value ∙ q))), c.open_transaction-opened.ensures.trans_value.1.1))) in
-    record { value = whole.0; words_after = whole.1; transaction_after = whole.2; left_if_refused = whole.3 }
+    record {
+      value = c.open_transaction-opened.ensures.refusal_value;
+      words_after = c.open_transaction-opened.ensures.trans_value.1.0;
+      transaction_after = rw (ne_eqb _ 0 (λ q. c.if-opened-ne0.true (c.open_transaction-opened.ensures.refusal_value ∙ q)));
+      left_if_refused = c.open_transaction-opened.ensures.trans_value.1.1;
+    }
 
 pub returns : goal.returns
 returns c =

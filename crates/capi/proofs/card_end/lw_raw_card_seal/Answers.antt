@@ -8,8 +8,12 @@ use Rattle.capi.proofs.card_end.lw_raw_card_seal.Goals as goal
 
 pub returns-then-sealed-ne0 : goal.returns-then-sealed-ne0
 returns-then-sealed-ne0 c =
-    let whole = (c.seal_frame-sealed.ensures.refusal_value, (c.seal_frame-sealed.ensures.number_value.1.0, (rw (ne_eqb _ 0 (λ q. c.if-sealed-ne0.true (c.seal_frame-sealed.ensures.refusal_value ∙ q))), c.seal_frame-sealed.ensures.number_value.1.1))) in
-    record { value = whole.0; words_after = whole.1; number_after = whole.2; left_if_refused = whole.3 }
+    record {
+      value = c.seal_frame-sealed.ensures.refusal_value;
+      words_after = c.seal_frame-sealed.ensures.number_value.1.0;
+      number_after = rw (ne_eqb _ 0 (λ q. c.if-sealed-ne0.true (c.seal_frame-sealed.ensures.refusal_value ∙ q)));
+      left_if_refused = c.seal_frame-sealed.ensures.number_value.1.1;
+    }
 
 pub returns : goal.returns
 returns c =
