@@ -10,9 +10,9 @@ pub returns : goal.returns
 returns c =
     record {
       value = c.kind_of.ensures ∙ ap (λ a. get_or (answer_words a) 0 0) c.receive-a.ensures.value;
-      words_after = c.receive-a.ensures.words_after.0;
-      memory_after = c.receive-a.ensures.words_after.1.0;
+      words_after = c.receive-a.ensures.words_after;
+      memory_after = c.receive-a.ensures.memory_after;
       source_after = c.source_of.ensures;
       answer_after = c.put_answer.ensures ∙ ap answer_words c.receive-a.ensures.value;
-      leaves_words = rw (← c.receive-a.ensures.value) c.receive-a.ensures.words_after.1.1;
+      leaves_words = rw (← c.receive-a.ensures.value) c.receive-a.ensures.leaves_words;
     }

@@ -12,8 +12,8 @@ returns c =
     let a = c.args in
     let reply = ap (λ (x : Fed). x.reply) c.feed-fed.ensures.value in record {
       value = c.put_reply.ensures.value ∙ ap reply_number reply;
-      memory_after = c.feed-fed.ensures.memory_after.0;
+      memory_after = c.feed-fed.ensures.memory_after;
       taken_after = ap (λ (x : Fed). x.taken) c.feed-fed.ensures.value;
       answer_after = c.put_reply.ensures.answer_after ∙ ap (λ (r : Reply). reply_words r a.answer.now) reply;
-      left_if_closed = λ h. c.feed-fed.ensures.memory_after.1 (reply ∙ h);
+      left_if_closed = λ h. c.feed-fed.ensures.left_if_closed (reply ∙ h);
     }
