@@ -12,5 +12,9 @@ pub returns : goal.returns
 unfolding added_in
 returns c =
     let a = c.args in
-    let e : length a.words.now ≡ 85 = omega arith in let whole = (c.add_message.ensures.value ∙ rw (eq-eqb _ 85 e), (c.add_message.ensures.steps.0.0 e, (c.add_message.ensures.steps.1 ∙ rw (eq-eqb _ 85 e), c.add_message.ensures.steps.0.1))) in
-    record { value = whole.0; words_after = whole.1; slots_after = whole.2; left_if_refused = whole.3 }
+    let e : length a.words.now ≡ 85 = omega arith in record {
+      value = c.add_message.ensures.value ∙ rw (eq-eqb _ 85 e);
+      words_after = c.add_message.ensures.steps.0 e;
+      slots_after = c.add_message.ensures.slots_after ∙ rw (eq-eqb _ 85 e);
+      left_if_refused = c.add_message.ensures.steps.1;
+    }

@@ -12,8 +12,9 @@ use Rattle.logwhisker.proofs.open_transaction.Goals as goal
 pub returns : goal.returns
 unfolding opened_in
 returns c =
-    let e : length c.args.words.now ≡ 85 = omega arith in let whole = (
-      ap (λ (o : OpenedTransaction). o.refusal) c.open_transaction.ensures.value ∙ rw (eq-eqb _ 85 e),
-      (ap (λ (o : OpenedTransaction). o.trans) c.open_transaction.ensures.value ∙ rw (eq-eqb _ 85 e), (c.open_transaction.ensures.steps.0 e, c.open_transaction.ensures.steps.1)),
-    ) in
-    record { refusal_value = whole.0; trans_value = whole.1; words_after = whole.2; left_if_refused = whole.3 }
+    let e : length c.args.words.now ≡ 85 = omega arith in record {
+      refusal_value = ap (λ (o : OpenedTransaction). o.refusal) c.open_transaction.ensures.value ∙ rw (eq-eqb _ 85 e);
+      trans_value = ap (λ (o : OpenedTransaction). o.trans) c.open_transaction.ensures.value ∙ rw (eq-eqb _ 85 e);
+      words_after = c.open_transaction.ensures.steps.0 e;
+      left_if_refused = c.open_transaction.ensures.steps.1;
+    }

@@ -9,5 +9,8 @@ use Rattle.logwhisker.proofs.read_acknowledgements.Goals as goal
 
 pub returns : goal.returns
 returns c =
-    let e : length c.args.words.now ≡ 85 = omega arith in let whole = (c.read_acknowledgements.ensures.value ∙ rw (eq-eqb _ 85 e), (c.read_acknowledgements.ensures.steps.0 e, c.read_acknowledgements.ensures.steps.1)) in
-    record { value = whole.0; words_after = whole.1; left_if_refused = whole.2 }
+    let e : length c.args.words.now ≡ 85 = omega arith in record {
+      value = c.read_acknowledgements.ensures.value ∙ rw (eq-eqb _ 85 e);
+      words_after = c.read_acknowledgements.ensures.steps.0 e;
+      left_if_refused = c.read_acknowledgements.ensures.steps.1;
+    }

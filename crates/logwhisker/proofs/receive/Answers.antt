@@ -9,5 +9,9 @@ use Rattle.logwhisker.proofs.receive.Goals as goal
 pub returns : goal.returns
 returns c =
     let a = c.args in
-    let e : length a.words.now ≡ 67 = omega arith in let whole = ((c.receive_in_place.ensures.0 e).2, ((c.receive_in_place.ensures.0 e).0, ((c.receive_in_place.ensures.0 e).1, c.receive_in_place.ensures.2))) in
-    record { value = whole.0; words_after = whole.1; memory_after = whole.2; leaves_words = whole.3 }
+    let e : length a.words.now ≡ 67 = omega arith in record {
+      value = (c.receive_in_place.ensures.0 e).2;
+      words_after = (c.receive_in_place.ensures.0 e).0;
+      memory_after = (c.receive_in_place.ensures.0 e).1;
+      leaves_words = c.receive_in_place.ensures.2;
+    }

@@ -12,8 +12,9 @@ use Rattle.logwhisker.proofs.seal_frame.Goals as goal
 pub returns : goal.returns
 unfolding sealed_in
 returns c =
-    let e : length c.args.words.now ≡ 85 = omega arith in let whole = (
-      ap (λ (s : SealedFrame). s.refusal) c.seal_frame.ensures.value ∙ rw (eq-eqb _ 85 e),
-      (ap (λ (s : SealedFrame). s.number) c.seal_frame.ensures.value ∙ rw (eq-eqb _ 85 e), (c.seal_frame.ensures.steps.0 e, c.seal_frame.ensures.steps.1)),
-    ) in
-    record { refusal_value = whole.0; number_value = whole.1; words_after = whole.2; left_if_refused = whole.3 }
+    let e : length c.args.words.now ≡ 85 = omega arith in record {
+      refusal_value = ap (λ (s : SealedFrame). s.refusal) c.seal_frame.ensures.value ∙ rw (eq-eqb _ 85 e);
+      number_value = ap (λ (s : SealedFrame). s.number) c.seal_frame.ensures.value ∙ rw (eq-eqb _ 85 e);
+      words_after = c.seal_frame.ensures.steps.0 e;
+      left_if_refused = c.seal_frame.ensures.steps.1;
+    }

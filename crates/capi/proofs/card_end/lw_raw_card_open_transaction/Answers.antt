@@ -8,16 +8,20 @@ use Rattle.capi.proofs.card_end.lw_raw_card_open_transaction.Goals as goal
 
 pub returns-then-opened-ne0 : goal.returns-then-opened-ne0
 returns-then-opened-ne0 c =
-    let whole = (c.open_transaction-opened.ensures.refusal_value, (c.open_transaction-opened.ensures.trans_value.1.0, (rw (ne_eqb _ 0 (λ q. c.if-opened-ne0.true (c.open_transaction-opened.ensures.refusal_value ∙ q))), c.open_transaction-opened.ensures.trans_value.1.1))) in
-    record { value = whole.0; words_after = whole.1; transaction_after = whole.2; left_if_refused = whole.3 }
+    record {
+      value = c.open_transaction-opened.ensures.refusal_value;
+      words_after = c.open_transaction-opened.ensures.words_after;
+      transaction_after = rw (ne_eqb _ 0 (λ q. c.if-opened-ne0.true (c.open_transaction-opened.ensures.refusal_value ∙ q)));
+      left_if_refused = c.open_transaction-opened.ensures.left_if_refused;
+    }
 
 pub returns : goal.returns
 returns c =
-    let whole = (
-      sym c.if-opened-ne0.false ∙ c.open_transaction-opened.ensures.refusal_value,
-      (
-        c.open_transaction-opened.ensures.trans_value.1.0,
-        (rw (eq-eqb _ 0 (sym c.open_transaction-opened.ensures.refusal_value ∙ c.if-opened-ne0.false)) (ap (λ (n : TransNo). n.0) c.open_transaction-opened.ensures.trans_value.0), λ ne. absurd (ne refl)),
-      ),
-    ) in
-    record { value = whole.0; words_after = whole.1; transaction_after = whole.2; left_if_refused = whole.3 }
+    let told = c.open_transaction-opened.ensures.refusal_value in record {
+      value = sym c.if-opened-ne0.false ∙ told;
+      words_after = c.open_transaction-opened.ensures.words_after;
+      transaction_after = rw (eq-eqb _ 0 (sym told ∙ c.if-opened-ne0.false)) (
+        ap (λ (n : TransNo). n.0) c.open_transaction-opened.ensures.trans_value
+      );
+      left_if_refused = λ ne. absurd (ne refl);
+    }

@@ -8,16 +8,20 @@ use Rattle.capi.proofs.card_end.lw_raw_card_seal.Goals as goal
 
 pub returns-then-sealed-ne0 : goal.returns-then-sealed-ne0
 returns-then-sealed-ne0 c =
-    let whole = (c.seal_frame-sealed.ensures.refusal_value, (c.seal_frame-sealed.ensures.number_value.1.0, (rw (ne_eqb _ 0 (λ q. c.if-sealed-ne0.true (c.seal_frame-sealed.ensures.refusal_value ∙ q))), c.seal_frame-sealed.ensures.number_value.1.1))) in
-    record { value = whole.0; words_after = whole.1; number_after = whole.2; left_if_refused = whole.3 }
+    record {
+      value = c.seal_frame-sealed.ensures.refusal_value;
+      words_after = c.seal_frame-sealed.ensures.words_after;
+      number_after = rw (ne_eqb _ 0 (λ q. c.if-sealed-ne0.true (c.seal_frame-sealed.ensures.refusal_value ∙ q)));
+      left_if_refused = c.seal_frame-sealed.ensures.left_if_refused;
+    }
 
 pub returns : goal.returns
 returns c =
-    let whole = (
-      sym c.if-sealed-ne0.false ∙ c.seal_frame-sealed.ensures.refusal_value,
-      (
-        c.seal_frame-sealed.ensures.number_value.1.0,
-        (rw (eq-eqb _ 0 (sym c.seal_frame-sealed.ensures.refusal_value ∙ c.if-sealed-ne0.false)) (ap (λ (n : FrameNo). n.0) c.seal_frame-sealed.ensures.number_value.0), λ ne. absurd (ne refl)),
-      ),
-    ) in
-    record { value = whole.0; words_after = whole.1; number_after = whole.2; left_if_refused = whole.3 }
+    let told = c.seal_frame-sealed.ensures.refusal_value in record {
+      value = sym c.if-sealed-ne0.false ∙ told;
+      words_after = c.seal_frame-sealed.ensures.words_after;
+      number_after = rw (eq-eqb _ 0 (sym told ∙ c.if-sealed-ne0.false)) (
+        ap (λ (n : FrameNo). n.0) c.seal_frame-sealed.ensures.number_value
+      );
+      left_if_refused = λ ne. absurd (ne refl);
+    }

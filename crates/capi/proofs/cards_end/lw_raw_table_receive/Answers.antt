@@ -8,17 +8,11 @@ use Rattle.capi.proofs.cards_end.lw_raw_table_receive.Goals as goal
 
 pub returns : goal.returns
 returns c =
-    let whole = (
-      c.kind_of.ensures ∙ ap (λ a. get_or (answer_words a) 0 0) c.receive-a.ensures.value,
-      (
-        c.receive-a.ensures.words_after.0,
-        (
-          c.receive-a.ensures.words_after.1.0,
-          (
-            c.source_of.ensures,
-            (c.put_answer.ensures ∙ ap answer_words c.receive-a.ensures.value, rw (← c.receive-a.ensures.value) c.receive-a.ensures.words_after.1.1),
-          ),
-        ),
-      ),
-    ) in
-    record { value = whole.0; words_after = whole.1; memory_after = whole.2; source_after = whole.3; answer_after = whole.4; leaves_words = whole.5 }
+    record {
+      value = c.kind_of.ensures ∙ ap (λ a. get_or (answer_words a) 0 0) c.receive-a.ensures.value;
+      words_after = c.receive-a.ensures.words_after;
+      memory_after = c.receive-a.ensures.memory_after;
+      source_after = c.source_of.ensures;
+      answer_after = c.put_answer.ensures ∙ ap answer_words c.receive-a.ensures.value;
+      leaves_words = rw (← c.receive-a.ensures.value) c.receive-a.ensures.leaves_words;
+    }

@@ -5,5 +5,7 @@ use Rattle.capi.proofs.host_by_value.lw_raw_host_acknowledge_by_value.Goals as g
 
 pub returns : goal.returns
 returns c =
-    let e = rw (c.unpack.ensures, c.answer_of-a.ensures) at c.acknowledge_by_value-ack.ensures in let whole = rw e at (c.put_acknowledgement.ensures.value, c.put_acknowledgement.ensures.out_after) in
-    record { value = whole.0; frame_after = whole.1 }
+    let e = rw (c.unpack.ensures, c.answer_of-a.ensures) at c.acknowledge_by_value-ack.ensures in record {
+      value = rw e at c.put_acknowledgement.ensures.value;
+      frame_after = rw e at c.put_acknowledgement.ensures.out_after;
+    }

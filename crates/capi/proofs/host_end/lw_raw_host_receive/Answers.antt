@@ -8,8 +8,10 @@ use Rattle.capi.proofs.host_end.lw_raw_host_receive.Goals as goal
 
 pub returns : goal.returns
 returns c =
-    let whole = (
-      c.kind_of.ensures ∙ ap (λ a. get_or (answer_words a) 0 0) c.receive-a.ensures.value,
-      (c.receive-a.ensures.words_after.0, (c.receive-a.ensures.words_after.1.0, (c.put_answer.ensures ∙ ap answer_words c.receive-a.ensures.value, rw (← c.receive-a.ensures.value) c.receive-a.ensures.words_after.1.1))),
-    ) in
-    record { value = whole.0; words_after = whole.1; memory_after = whole.2; answer_after = whole.3; leaves_words = whole.4 }
+    record {
+      value = c.kind_of.ensures ∙ ap (λ a. get_or (answer_words a) 0 0) c.receive-a.ensures.value;
+      words_after = c.receive-a.ensures.words_after;
+      memory_after = c.receive-a.ensures.memory_after;
+      answer_after = c.put_answer.ensures ∙ ap answer_words c.receive-a.ensures.value;
+      leaves_words = rw (← c.receive-a.ensures.value) c.receive-a.ensures.leaves_words;
+    }

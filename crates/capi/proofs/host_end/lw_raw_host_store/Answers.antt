@@ -7,5 +7,8 @@ use Rattle.capi.proofs.host_end.lw_raw_host_store.Goals as goal
 
 pub returns : goal.returns
 returns c =
-    let whole = (ap (λ (s : Stored). s.refusal) c.store_host-stored.ensures.value, (c.store_host-stored.ensures.buffer_after, ap (λ (s : Stored). s.length) c.store_host-stored.ensures.value)) in
-    record { value = whole.0; text_after = whole.1; length_after = whole.2 }
+    record {
+      value = ap (λ (s : Stored). s.refusal) c.store_host-stored.ensures.value;
+      text_after = c.store_host-stored.ensures.buffer_after;
+      length_after = ap (λ (s : Stored). s.length) c.store_host-stored.ensures.value;
+    }

@@ -15,34 +15,24 @@ returns-then-said-gt1 c =
     let a = c.args in
     let step = close (replaying_of a.place.now a.words.now a.frame.now a.memory.now) in
     let reply = ap (λ (x : Closed). x.reply) c.close-closed.ensures.value in
-    let said = c.put_reply-said.ensures.value ∙ ap reply_number reply in let whole = (
-      said,
-      (
-        c.close-closed.ensures.memory_after.0,
-        (
-          c.put_reply-said.ensures.answer_after ∙ ap (λ (r : Reply). reply_words r a.answer.now) reply,
-          (totals-stay step _ a.totals.now said c.if-said-gt1.true, λ h. c.close-closed.ensures.memory_after.1 (reply ∙ h)),
-        ),
-      ),
-    ) in
-    record { value = whole.0; memory_after = whole.1; answer_after = whole.2; totals_after = whole.3; left_if_closed = whole.4 }
+    let said = c.put_reply-said.ensures.value ∙ ap reply_number reply in record {
+      value = said;
+      memory_after = c.close-closed.ensures.memory_after;
+      answer_after = c.put_reply-said.ensures.answer_after ∙ ap (λ (r : Reply). reply_words r a.answer.now) reply;
+      totals_after = totals-stay step _ a.totals.now said c.if-said-gt1.true;
+      left_if_closed = λ h. c.close-closed.ensures.left_if_closed (reply ∙ h);
+    }
 
 pub returns : goal.returns
 returns c =
     let a = c.args in
     let step = close (replaying_of a.place.now a.words.now a.frame.now a.memory.now) in
     let reply = ap (λ (x : Closed). x.reply) c.close-closed.ensures.value in
-    let said = c.put_reply-said.ensures.value ∙ ap reply_number reply in let whole = (
-      said,
-      (
-        c.close-closed.ensures.memory_after.0,
-        (
-          c.put_reply-said.ensures.answer_after ∙ ap (λ (r : Reply). reply_words r a.answer.now) reply,
-          (
-            totals-told step _ a.totals.now said c.if-said-gt1.false _ (ap (λ (x : Closed). x.totals) c.close-closed.ensures.value),
-            λ h. c.close-closed.ensures.memory_after.1 (reply ∙ h),
-          ),
-        ),
-      ),
-    ) in
-    record { value = whole.0; memory_after = whole.1; answer_after = whole.2; totals_after = whole.3; left_if_closed = whole.4 }
+    let said = c.put_reply-said.ensures.value ∙ ap reply_number reply in
+    let totals = ap (λ (x : Closed). x.totals) c.close-closed.ensures.value in record {
+      value = said;
+      memory_after = c.close-closed.ensures.memory_after;
+      answer_after = c.put_reply-said.ensures.answer_after ∙ ap (λ (r : Reply). reply_words r a.answer.now) reply;
+      totals_after = totals-told step _ a.totals.now said c.if-said-gt1.false _ totals;
+      left_if_closed = λ h. c.close-closed.ensures.left_if_closed (reply ∙ h);
+    }

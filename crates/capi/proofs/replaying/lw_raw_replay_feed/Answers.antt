@@ -10,17 +10,10 @@ use Rattle.capi.proofs.replaying.lw_raw_replay_feed.Goals as goal
 pub returns : goal.returns
 returns c =
     let a = c.args in
-    let reply = ap (λ (x : Fed). x.reply) c.feed-fed.ensures.value in let whole = (
-      c.put_reply.ensures.value ∙ ap reply_number reply,
-      (
-        c.feed-fed.ensures.memory_after.0,
-        (
-          ap (λ (x : Fed). x.taken) c.feed-fed.ensures.value,
-          (
-            c.put_reply.ensures.answer_after ∙ ap (λ (r : Reply). reply_words r a.answer.now) reply,
-            λ h. c.feed-fed.ensures.memory_after.1 (reply ∙ h),
-          ),
-        ),
-      ),
-    ) in
-    record { value = whole.0; memory_after = whole.1; taken_after = whole.2; answer_after = whole.3; left_if_closed = whole.4 }
+    let reply = ap (λ (x : Fed). x.reply) c.feed-fed.ensures.value in record {
+      value = c.put_reply.ensures.value ∙ ap reply_number reply;
+      memory_after = c.feed-fed.ensures.memory_after;
+      taken_after = ap (λ (x : Fed). x.taken) c.feed-fed.ensures.value;
+      answer_after = c.put_reply.ensures.answer_after ∙ ap (λ (r : Reply). reply_words r a.answer.now) reply;
+      left_if_closed = λ h. c.feed-fed.ensures.left_if_closed (reply ∙ h);
+    }

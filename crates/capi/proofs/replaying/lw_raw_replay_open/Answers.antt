@@ -6,6 +6,6 @@ use Rattle.capi.proofs.replaying.lw_raw_replay_open.Goals as goal
 pub returns : goal.returns
 returns c =
     record {
-      memory_after = c.«open».ensures.0;
-      opens_replay = c.«open».ensures.1;
+      memory_after = c.open.ensures.memory_after;
+      opens_replay = c.open.ensures.opens_replay;
     }

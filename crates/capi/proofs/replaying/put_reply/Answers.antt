@@ -5,6 +5,4 @@ use borrow.Author.Rules.{rules}
 use Rattle.capi.proofs.replaying.put_reply.Goals as goal
 
 pub returns-in-Nothing : goal.returns-in-Nothing
-returns-in-Nothing c =
-    let whole = (refl, refl) in
-    record { value = rw c.in-Nothing.is whole.0; answer_after = whole.1 }
+returns-in-Nothing c = record { value = rw c.in-Nothing.is; answer_after = rw c.in-Nothing.is }

@@ -10,5 +10,8 @@ pub returns : goal.returns
 returns c =
     let a = c.args in
     let e : length a.words.now ≡ 1121 = omega arith in
-    let f : length a.pair.now ≡ 67 = omega arith in let whole = (((c.adopt.ensures.0 e).0 f).1, (((c.adopt.ensures.0 e).0 f).0, c.adopt.ensures.2)) in
-    record { value = whole.0; words_after = whole.1; left_if_refused = whole.2 }
+    let f : length a.pair.now ≡ 67 = omega arith in record {
+      value = ((c.adopt.ensures.0 e).0 f).1;
+      words_after = ((c.adopt.ensures.0 e).0 f).0;
+      left_if_refused = c.adopt.ensures.2;
+    }

@@ -8,5 +8,8 @@ use Rattle.logwhisker.proofs.cards.register.Goals as goal
 
 pub returns : goal.returns
 returns c =
-    let e : length c.args.words.now ≡ 1121 = omega arith in let whole = ((c.register.ensures.0.0 e).1, ((c.register.ensures.0.0 e).0, c.register.ensures.1)) in
-    record { value = whole.0; words_after = whole.1; left_if_refused = whole.2 }
+    let e : length c.args.words.now ≡ 1121 = omega arith in record {
+      value = (c.register.ensures.0.0 e).1;
+      words_after = (c.register.ensures.0.0 e).0;
+      left_if_refused = c.register.ensures.1;
+    }

@@ -10,5 +10,8 @@ pub returns : goal.returns
 returns c =
     let a = c.args in
     let e : length a.words.now ≡ 1121 = omega arith in
-    let f : length a.pair.now ≡ 67 = omega arith in let whole = (((c.take.ensures.0 e).0 f).0, (((c.take.ensures.0 e).0 f).1, c.take.ensures.2)) in
-    record { value = whole.0; pair_after = whole.1; left_if_refused = whole.2 }
+    let f : length a.pair.now ≡ 67 = omega arith in record {
+      value = ((c.take.ensures.0 e).0 f).0;
+      pair_after = ((c.take.ensures.0 e).0 f).1;
+      left_if_refused = c.take.ensures.2;
+    }
