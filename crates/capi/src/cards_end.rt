@@ -2,7 +2,7 @@
 // arrays only. Assumes of a caller that pointers and lengths are right. It promises what the library's face does, with
 // answers as words and with what is due written (host_answer/specs/Due.antt).
 ghost use Rattle.std.specs.Prelude.{◌≡◌, get_or};
-ghost use Rattle.wire.specs.Reading.{source as sourceIn};
+ghost use Rattle.wire.specs.Reading.{source as source_in};
 ghost use Rattle.host.specs.Host.{LeavesWords, answer_words, answer_of};
 ghost use Rattle.host_answer.specs.Due.{due_number, written_where_due};
 ghost use Rattle.host_words.specs.Words.{pair_of};
@@ -74,7 +74,7 @@ pub extern "C" fn lw_raw_table_receive(
         ≡ (received_at_table words.old frame.now memory.old).table }
     ensures memory_after { memory.new
         ≡ (received_at_table words.old frame.now memory.old).memory }
-    ensures source_after { source.new ≡ sourceIn frame.now }
+    ensures source_after { source.new ≡ source_in frame.now }
     ensures answer_after { answer.new
         ≡ answer_words (received_at_table words.old frame.now memory.old
         ).answer }

@@ -4,7 +4,7 @@
 ghost use Rattle.std.specs.Prelude.{◌≡◌, get_or};
 ghost use Rattle.host.specs.Host.{LeavesWords, answer_words, answer_of};
 ghost use Rattle.host_answer.specs.Due.{due_number, written_where_due};
-ghost use Rattle.host_words.specs.Describing.{description as descriptionOf};
+ghost use Rattle.host_words.specs.Describing.{description as description_of};
 ghost use Rattle.host_words.specs.Words.{pair_of};
 ghost use Rattle.logwhisker.specs.Face.{
   host_opened,
@@ -79,7 +79,7 @@ pub extern "C" fn lw_raw_host_acknowledge(
 // Describes a host: IDs, windows, and the open transactions, nearest the lowest first.
 #[unsafe(no_mangle)]
 pub extern "C" fn lw_raw_host_describe(words: &[u64; 67], description: &mut [u64; 167])
-    ensures { description.new ≡ descriptionOf (pair_of words.now) }
+    ensures { description.new ≡ description_of (pair_of words.now) }
 {
     *description = logwhisker::describe_host(words);
 }

@@ -2,7 +2,7 @@
 // arrays only. Assumes of a caller that pointers and lengths are right. It promises what replay_feed does, with what
 // is said of a line as a number and words (specs/Replies.antt).
 ghost use Rattle.std.specs.Prelude.{◌≡◌, [], ◌∷◌, replicate};
-ghost use Rattle.replay_text.specs.Feeding.{feed as feedOf, close as closeOf, LeftIfClosed};
+ghost use Rattle.replay_text.specs.Feeding.{feed as feed_of, close as close_of, LeftIfClosed};
 ghost use Rattle.replay_feed.specs.State.{replaying_of, OpensReplay};
 ghost use Rattle.capi.specs.Replies.{reply_number, reply_words, totals_unless_refused};
 
@@ -47,22 +47,22 @@ pub extern "C" fn lw_raw_replay_feed(
     taken: &mut usize,
     answer: &mut [u64; 8],
 ) -> u32
-    ensures value { result ≡ reply_number (feedOf
+    ensures value { result ≡ reply_number (feed_of
         (replaying_of place.old words.old frame.old memory.old)
         fragment.now).reply }
     ensures memory_after { replaying_of place.new words.new frame.new memory.new
-        ≡ (feedOf
+        ≡ (feed_of
         (replaying_of place.old words.old frame.old memory.old)
         fragment.now).state }
     ensures taken_after { taken.new
-        ≡ (feedOf
+        ≡ (feed_of
         (replaying_of place.old words.old frame.old memory.old)
         fragment.now).taken }
     ensures answer_after { answer.new
-        ≡ reply_words (feedOf
+        ≡ reply_words (feed_of
         (replaying_of place.old words.old frame.old memory.old)
         fragment.now).reply answer.old }
-    ensures left_if_closed { LeftIfClosed (feedOf
+    ensures left_if_closed { LeftIfClosed (feed_of
         (replaying_of place.old words.old frame.old memory.old)
         fragment.now).reply
         (place.old ∷ words.old ∷ frame.old ∷ memory.old ∷ [])
@@ -84,20 +84,20 @@ pub extern "C" fn lw_raw_replay_close(
     answer: &mut [u64; 8],
     totals: &mut [u64; 3],
 ) -> u32
-    ensures value { result ≡ reply_number (closeOf
+    ensures value { result ≡ reply_number (close_of
         (replaying_of place.old words.old frame.now memory.old)).reply }
     ensures memory_after { replaying_of place.new words.new frame.now memory.new
-        ≡ (closeOf
+        ≡ (close_of
         (replaying_of place.old words.old frame.now memory.old)).state }
     ensures answer_after { answer.new
-        ≡ reply_words (closeOf
+        ≡ reply_words (close_of
         (replaying_of place.old words.old frame.now memory.old)).reply
         answer.old }
     ensures totals_after { totals.new
-        ≡ totals_unless_refused (closeOf
+        ≡ totals_unless_refused (close_of
         (replaying_of place.old words.old frame.now memory.old))
         totals.old }
-    ensures left_if_closed { LeftIfClosed (closeOf
+    ensures left_if_closed { LeftIfClosed (close_of
         (replaying_of place.old words.old frame.now memory.old)).reply
         (place.old ∷ words.old ∷ memory.old ∷ [])
         (place.new ∷ words.new ∷ memory.new ∷ []) }

@@ -7,7 +7,7 @@
 ghost use Rattle.std.specs.Prelude.{◌≡◌, [], ◌∷◌, replicate};
 ghost use Rattle.host_words.specs.Words.{pair_of};
 ghost use Rattle.replay_text.specs.Report.{answered_line};
-ghost use Rattle.replay_text.specs.Feeding.{feed as feedOf, close as closeOf, LeftIfClosed};
+ghost use Rattle.replay_text.specs.Feeding.{feed as feed_of, close as close_of, LeftIfClosed};
 ghost use Rattle.replay_text.specs.Place.{fed_of, closed_of, counted, Answers};
 ghost use Rattle.replay_feed.specs.State.{replaying_of, OpensReplay};
 
@@ -71,11 +71,11 @@ pub fn feed(
     fragment: &[u8],
 ) -> Fed
     ensures value { result
-        ≡ fed_of (feedOf
+        ≡ fed_of (feed_of
         (replaying_of place.old words.old frame.old memory.old)
         fragment.now) }
     ensures memory_after { replaying_of place.new words.new frame.new memory.new
-        ≡ (feedOf
+        ≡ (feed_of
         (replaying_of place.old words.old frame.old memory.old)
         fragment.now).state }
     ensures left_if_closed { LeftIfClosed result.reply
@@ -104,10 +104,10 @@ pub fn close(
     memory: &mut [u8; 4096],
 ) -> Closed
     ensures value { result
-        ≡ closed_of (closeOf
+        ≡ closed_of (close_of
         (replaying_of place.old words.old frame.now memory.old)) }
     ensures memory_after { replaying_of place.new words.new frame.now memory.new
-        ≡ (closeOf
+        ≡ (close_of
         (replaying_of place.old words.old frame.now memory.old)).state }
     ensures left_if_closed { LeftIfClosed result.reply
         (place.old ∷ words.old ∷ memory.old ∷ [])

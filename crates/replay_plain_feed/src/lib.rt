@@ -7,7 +7,7 @@
 ghost use Rattle.std.specs.Prelude.{◌≡◌, [], ◌∷◌, replicate};
 ghost use Rattle.host_equal.specs.Described.{pair_of_plain};
 ghost use Rattle.replay_text.specs.Report.{answered_line};
-ghost use Rattle.replay_text.specs.Feeding.{feed as feedOf, close as closeOf, LeftIfClosed};
+ghost use Rattle.replay_text.specs.Feeding.{feed as feed_of, close as close_of, LeftIfClosed};
 ghost use Rattle.replay_text.specs.Place.{fed_of, closed_of, counted, Answers};
 ghost use Rattle.replay_plain_feed.specs.State.{replaying_of, OpensReplay};
 
@@ -88,11 +88,11 @@ pub fn feed(
     fragment: &[u8],
 ) -> PlainFed
     ensures fed_value { result.fed
-        ≡ fed_of (feedOf
+        ≡ fed_of (feed_of
         (replaying_of place.old pair frame.old memory.old)
         fragment.now) }
     ensures memory_after { replaying_of place.new result.pair frame.new memory.new
-        ≡ (feedOf
+        ≡ (feed_of
         (replaying_of place.old pair frame.old memory.old)
         fragment.now).state }
     ensures left_if_closed { LeftIfClosed result.fed.reply
@@ -124,10 +124,10 @@ pub fn close(
     memory: &mut [u8; 4096],
 ) -> PlainClosed
     ensures closed_value { result.closed
-        ≡ closed_of (closeOf
+        ≡ closed_of (close_of
         (replaying_of place.old pair frame.now memory.old)) }
     ensures memory_after { replaying_of place.new result.pair frame.now memory.new
-        ≡ (closeOf
+        ≡ (close_of
         (replaying_of place.old pair frame.now memory.old)).state }
     ensures left_if_closed { LeftIfClosed result.closed.reply
         (place.old ∷ memory.old ∷ [])

@@ -2,7 +2,7 @@
 // source. Assumes nothing: any words and any bytes have an answer. It promises wire/specs/Reading.antt, source, and
 // host/specs/Host.antt, acknowledgement_from: together table/specs/Table.antt, table_acknowledgement.
 ghost use Rattle.std.specs.Prelude.{◌≡◌};
-ghost use Rattle.wire.specs.Reading.{source as sourceIn};
+ghost use Rattle.wire.specs.Reading.{source as source_in};
 ghost use Rattle.host.specs.Host.{acknowledgement_from};
 ghost use Rattle.table_words.specs.TableWords.{table_of};
 
@@ -13,7 +13,7 @@ use seq::FrameNo;
 // The source that a frame names. A byte that is not there counts as 0. Both branches read the same; where a header is
 // there, the compiler need not ask for each of its bytes, and reads it once for this and for receiving.
 pub fn source_of(f: &[u8]) -> u16
-    ensures { result ≡ sourceIn f.now }
+    ensures { result ≡ source_in f.now }
 {
     if wire::FRAME_HEADER <= f.len() {
         return wire_read::frame_header(f).source;
