@@ -1,7 +1,6 @@
 -- `host_plain::run_from` counts number after number.
 -- Assumes nothing.
 use Rattle.std.proofs.Common.{sym, ◌∙◌}
-use borrow.Author.Tests.{not-true, not-false}
 use Rattle.host_plain.proofs.Receiving.{counting-stops, counting-full, counting-on}
 use Rattle.host_plain.proofs.run_from.Goals as goal
 

@@ -1,7 +1,6 @@
 -- `host_plain::take_in`: kept open, or marked as closed and the window moved.
 -- Assumes nothing.
 use Rattle.std.proofs.Common.{sym, ◌∙◌}
-use borrow.Author.Tests.{not-true, not-false}
 use Rattle.host_plain.specs.Plain.{keeping}
 use Rattle.host_plain.proofs.Messages.{closing-is, after-closing, after-keeping}
 use Rattle.host_plain.proofs.take_in.Goals as goal

@@ -1,7 +1,6 @@
 -- `host_store::restore::read`: each way to a refusal, and the pair.
 -- Assumes nothing.
 use mathlib.Core.Path.{◌∙◌}
-use borrow.Author.Tests.{not-true, not-false}
 use Rattle.host_stored.specs.Form.{head_widths}
 use Rattle.host_store.proofs.restore.OpenLines.{line-none, line-some}
 use Rattle.host_store.proofs.restore.Restoring.{

@@ -1,6 +1,5 @@
 -- `host_store::restore::read_open`: a line that is not there, is not fine, or is.
 -- Assumes nothing.
-use borrow.Author.Tests.{not-true, not-false}
 use Rattle.host_stored.specs.Form.{open_widths}
 use Rattle.host_store.proofs.restore.OpenLines.{line-none, line-some, open-total, bad-none, bad-line, good-line}
 use Rattle.host_store.proofs.restore.read_open.Goals as goal

@@ -20,10 +20,10 @@ returns-then-peer-eq0 c =
 pub returns-then-buffer-size : goal.returns-then-buffer-size
 returns-then-buffer-size c =
     let whole =
-        too_short 1 _ _
-        (λ z. c.if-own-eq0.false (c.own.ensures ∙ z))
-        (λ z. c.if-peer-eq0.false (c.peer.ensures ∙ z))
-        _ _ refl (counted _ _ c.count_open.ensures).0 _ c.if-buffer-size.true c.refused-then-buffer-size.ensures in
+    too_short 1 _ _
+    (λ z. c.if-own-eq0.false (c.own.ensures ∙ z))
+    (λ z. c.if-peer-eq0.false (c.peer.ensures ∙ z))
+    _ _ refl (counted _ _ c.count_open.ensures).0 _ c.if-buffer-size.true c.refused-then-buffer-size.ensures in
     record { value = whole.0; buffer_after = whole.1 }
 
 pub put_opens-requires : goal.put_opens-requires
@@ -38,9 +38,9 @@ put_opens-requires c =
 pub returns : goal.returns
 returns c =
     let whole =
-        fits 1 _ _
-        (λ z. c.if-own-eq0.false (c.own.ensures ∙ z))
-        (λ z. c.if-peer-eq0.false (c.peer.ensures ∙ z))
-        _ _ refl (counted _ _ c.count_open.ensures).0 _ _ _ _ c.if-buffer-size.false c.head_bytes-head.ensures
-        c.put_line-end.ensures.value c.put_line-end.ensures.out_after c.put_opens.ensures in
+    fits 1 _ _
+    (λ z. c.if-own-eq0.false (c.own.ensures ∙ z))
+    (λ z. c.if-peer-eq0.false (c.peer.ensures ∙ z))
+    _ _ refl (counted _ _ c.count_open.ensures).0 _ _ _ _ c.if-buffer-size.false c.head_bytes-head.ensures
+    c.put_line-end.ensures.value c.put_line-end.ensures.out_after c.put_opens.ensures in
     record { value = whole.0; buffer_after = whole.1 }
