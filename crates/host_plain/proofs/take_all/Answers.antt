@@ -3,7 +3,15 @@
 use Rattle.std.proofs.Common.{sym, ◌∙◌, arith}
 use Rattle.wire_read.proofs.Finding.{is_whole}
 use Rattle.host_plain.proofs.Messages.{in_window}
-use Rattle.host_plain.proofs.Passes.{steady-start, steady-turn, going_start, going-past, going-stops, going-ends, going_on}
+use Rattle.host_plain.proofs.Passes.{
+  steady-start,
+  steady-turn,
+  going_start,
+  going-past,
+  going-stops,
+  going-ends,
+  going_on,
+}
 use Rattle.host_plain.proofs.take_all.Goals as goal
 use Rattle.host_plain.proofs.take_all.Goals.{then-writing, else-writing}
 
