@@ -126,7 +126,8 @@ table-set w left k e h o at others =
             → get_or (listed (entry_at left) 0 16) i no_entry ≡ get_or (set (listed (entry_at w) 0 16) k e) i no_entry
         go (yes q) =
             rw q (table_at left k h ∙ at
-            ∙ sym (get_or-set_same (listed (entry_at w) 0 16) k e no_entry (omega (arith, length-listed (entry_at w) 0 16))))
+            ∙ sym (get_or-set_same (listed (entry_at w) 0 16) k e no_entry
+            (omega (arith, length-listed (entry_at w) 0 16))))
         go (no q) =
             table_at left i small ∙ others i small q ∙ sym (table_at w i small)
             ∙ sym (get_or-set_other (listed (entry_at w) 0 16) k i e no_entry q)
