@@ -25,9 +25,6 @@ pub record Passed (xs : List ℕ) (s k : ℕ) : Type 0 where
   pub most : k ≤ length xs
   pub is : index_of xs s ≡ k + index_of (drop k xs) s
 
-pub passed_start : (xs : List ℕ) (s : ℕ) → Passed xs s 0
-passed_start xs s = record { most = omega arith; is = omega arith }
-
 module _ {xs : List ℕ} {s k : ℕ} (g : Passed xs s k) where
   pub passed-turn : (x : ℕ) → k < length xs → x ≡ get_or xs k 0 % 65536 → x ≢ s → Passed xs s (k + 1)
   passed-turn x l e ne =

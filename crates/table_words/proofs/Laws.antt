@@ -1,14 +1,14 @@
 -- Laws of a table in words: what stands at a place, overlapping, and what stores leave of a table.
 -- Assumes nothing.
-use Prim.Native.Nat.{ℕ, zero, suc, ◌+◌, ◌-◌, ◌≤◌, ◌<◌}
-use native.Mathlib.Decide.{ℕ_discrete, dec_lt}
+use Prim.Native.Nat.{ℕ, zero, suc, ◌+◌, ◌≤◌, ◌<◌}
+use native.Mathlib.Decide.{ℕ_discrete}
 use native.Mathlib.Numerals.{add-one}
 use native.Mathlib.Omega.{arith}
 use mathlib.Core.Path.{◌≡◌, refl, sym, ◌∙◌, ap}
 use mathlib.Core.Logic.{◌≢◌}
 use mathlib.Core.Bool.{Bool, true, false, not}
 use mathlib.Core.List.{List, ◌++◌, append_assoc}
-use borrow.Author.Tests.{lt-ltb, le-ltb, not-true, not-false}
+use borrow.Author.Tests.{not-true, not-false}
 use borrow.Rule.Slice.PartMut.{put_mid}
 use lib.Dec.{ltb}
 use lib.ListN.{length, get_or, take, drop, set, length-set, get_or-eq_default}
@@ -42,16 +42,6 @@ pub table-past : (w : List ℕ) (k : ℕ) → 16 ≤ k → place (table_of w) k 
 table-past w k h = get_or-eq_default (table_of w).entries no_entry {n = k} (rw (table-long w) h)
 
 -- ---- overlapping
-
-pub end_low : (x a n : ℕ) → x < a → true ≡ ltb x (a + n)
-end_low x a n h = rw (lt-ltb x (a + n) (omega arith))
-
-pub end-high : (x a n : ℕ) → a ≤ x → ltb (x - a) n ≡ ltb x (a + n)
-end-high x a n h = go (dec_lt x (a + n))
-  where
-    go : Dec (x < a + n) → ltb (x - a) n ≡ ltb x (a + n)
-    go (yes l) = rw (lt-ltb x (a + n) l, lt-ltb (x - a) n (omega arith))
-    go (no l) = rw (le-ltb x (a + n) (omega arith), le-ltb (x - a) n (omega arith))
 
 pub overlap-no : (first size a n : ℕ) (e : Entry) (x : Bool) → a ≡ e.first → n ≡ e.size → x ≡ ltb first (a + n)
     → not x ≡ true → false ≡ overlaps first size e
@@ -136,7 +126,8 @@ table-set w left k e h o at others =
             → get_or (listed (entry_at left) 0 16) i no_entry ≡ get_or (set (listed (entry_at w) 0 16) k e) i no_entry
         go (yes q) =
             rw q (table_at left k h ∙ at
-            ∙ sym (get_or-set_same (listed (entry_at w) 0 16) k e no_entry (omega (arith, length-listed (entry_at w) 0 16))))
+            ∙ sym (get_or-set_same (listed (entry_at w) 0 16) k e no_entry
+            (omega (arith, length-listed (entry_at w) 0 16))))
         go (no q) =
             table_at left i small ∙ others i small q ∙ sym (table_at w i small)
             ∙ sym (get_or-set_other (listed (entry_at w) 0 16) k i e no_entry q)

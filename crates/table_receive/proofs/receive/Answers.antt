@@ -23,5 +23,5 @@ returns c =
     let r = c.find-reached.result in
     arrived a.words.now a.f.now a.memory.now r.place r.first r.size (c.find-reached.ensures.1 c.if-reached-ne0.false)
     (sym c.find-reached.ensures.0 ∙ c.if-reached-ne0.false) (pair_at r.place + 67 - pair_at r.place)
-    (r.first + r.size - r.first) (omega arith) (omega arith) c.if-words-ne-TABLE_WORDS.false _ _ _ c.receive_in_place.auto.words
-    c.receive_in_place.auto.memory c.receive_in_place.ensures
+    (r.first + r.size - r.first) (omega arith) (omega arith) c.if-words-ne-TABLE_WORDS.false _ _ _
+    c.receive_in_place.auto.words c.receive_in_place.auto.memory c.receive_in_place.ensures

@@ -1,14 +1,12 @@
 -- Words copied, a pair taken out of a table and one adopted, test by test. Assumes nothing.
-use Prim.Native.Nat.{ℕ, ◌+◌, ◌≤◌, ◌<◌}
-use native.Mathlib.Decide.{ℕ_discrete}
+use Prim.Native.Nat.{ℕ, ◌≤◌, ◌<◌}
 use native.Mathlib.Omega.{arith}
 use mathlib.Core.Path.{◌≡◌, refl, sym, ◌∙◌, ap}
 use mathlib.Core.Logic.{◌≢◌, ◌⊎◌, inl, inr}
 use mathlib.Core.Bool.{Bool, true, false}
 use mathlib.Core.List.{List}
 use borrow.Author.Tests.{eq-eqb, ne_eqb, lt-ltb, le-ltb}
-use lib.ListN.{length, get_or, take, drop, set, length-set}
-use lib.Seq.{ext_get_or, get_or-set_same, get_or-set_other}
+use lib.ListN.{length, get_or, take, drop}
 use Rattle.host.specs.declared.Pair.{Pair}
 use Rattle.host_words.specs.Words.{word_count, other_length, pair_of}
 use Rattle.table.specs.Table.{Table, place_of, entry_of, registered, with_entry, register_refusal}
@@ -22,23 +20,6 @@ use Rattle.table_register.specs.TableAdopting.{taken_into, TakesOut, Adopts}
 pub record Copied (to from : List ℕ) (i : ℕ) : Type 0 where
   pub long : length from ≡ length to
   pub same : (j : ℕ) → j < i → get_or to j 0 ≡ get_or from j 0
-
-pub copy_start : (to from : List ℕ) → length from ≡ length to → Copied to from 0
-copy_start to from e = record { long = e; same = λ j h. absurd (omega arith) }
-
-pub copy-turn : {to from : List ℕ} {i : ℕ} (x : ℕ) → i < length from → Copied to from i → x ≡ get_or from i 0
-    → Copied (set to i x) from (i + 1)
-copy-turn {to} {from} {i} x h c e = record {
-  long = c.long ∙ sym (length-set to i x);
-  same = λ j l. go j l (ℕ_discrete j i);
-}
-  where
-    go : (j : ℕ) → j < i + 1 → Dec (j ≡ i) → get_or (set to i x) j 0 ≡ get_or from j 0
-    go j l (yes q) = rw q (get_or-set_same to i x 0 (omega (arith, c.long)) ∙ e)
-    go j l (no q) = get_or-set_other to i j x 0 q ∙ c.same j (omega arith)
-
-pub copy_done : {to from : List ℕ} {i : ℕ} → length from ≤ i → Copied to from i → to ≡ from
-copy_done {to} {from} {i} h c = ext_get_or 0 to from (sym c.long) (λ j l. c.same j (omega (arith, c.long)))
 
 -- ---- lengths
 

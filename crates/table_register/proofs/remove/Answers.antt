@@ -6,8 +6,13 @@ use Rattle.table_register.proofs.remove.Goals as goal
 
 pub returns-then-source-eq0 : goal.returns-then-source-eq0
 returns-then-source-eq0 c =
-    let a = c.args in
-    ((λ l. remove-none a.words.now a.source c.if-source-eq0.true, λ n. absurd (n c.if-words-ne-TABLE_WORDS.false)), λ q. refl)
+    let a = c.args in (
+      (
+        λ l. remove-none a.words.now a.source c.if-source-eq0.true,
+        λ n. absurd (n c.if-words-ne-TABLE_WORDS.false),
+      ),
+      λ q. refl,
+    )
 
 pub returns-then-k-ge-PLACES : goal.returns-then-k-ge-PLACES
 returns-then-k-ge-PLACES c =

@@ -26,8 +26,9 @@ returns-then-k-ge-PLACES c =
 pub returns : goal.returns
 returns c =
     let a = c.args in
-    let t = taken a.words.now a.source c.if-source-eq0.false c.place_of-k.result c.place_of-k.ensures _
-    (pair_at c.place_of-k.result + 67 - pair_at c.place_of-k.result) c.if-k-ge-PLACES.false (omega arith) c.copy_words.ensures in
+    let k = c.place_of-k.result in
+    let t = taken a.words.now a.source c.if-source-eq0.false k c.place_of-k.ensures _
+    (pair_at k + 67 - pair_at k) c.if-k-ge-PLACES.false (omega arith) c.copy_words.ensures in
     takes_out _ _ _ _ _ (λ p q. (t.0, λ z. t.1))
     (both_right a.words.now a.pair.now c.if-words-ne-TABLE_WORDS.false c.if-pair-ne-WORDS.false)
     (λ n. absurd (n refl))
