@@ -67,7 +67,16 @@ fn read_all<E: Print + Eprint, R: Read>(
         if got.count == 0 {
             return room;
         }
-        let next = take_piece(rt, room, &piece[..got.count], place, words, frame, memory, out);
+        let next = take_piece(
+            rt,
+            room,
+            &piece[..got.count],
+            place,
+            words,
+            frame,
+            memory,
+            out,
+        );
         room = next;
         if room.failed {
             return room;
@@ -121,5 +130,13 @@ fn main(rt: HostRuntime) {
         &mut memory,
         &mut out,
     );
-    finish(&rt, end, &mut place, &mut words, &frame, &mut memory, &mut out);
+    finish(
+        &rt,
+        end,
+        &mut place,
+        &mut words,
+        &frame,
+        &mut memory,
+        &mut out,
+    );
 }
