@@ -5,7 +5,6 @@ use native.Mathlib.Omega.{arith}
 use lib.ListN.{length}
 use borrow.Author.Tests.{eq-eqb}
 use Rattle.card_build.specs.Building.{added_in}
-use borrow.Author.Rules.{rules}
 use Rattle.logwhisker.proofs.add_message.Goals as goal
 
 pub returns-clause-slots_after : goal.returns-clause-slots_after

@@ -6,7 +6,6 @@ use lib.ListN.{length}
 use borrow.Author.Tests.{eq-eqb}
 use Rattle.card_build.specs.declared.number.OpenedTransaction.{OpenedTransaction}
 use Rattle.card_build.specs.Numbering.{opened_in}
-use borrow.Author.Rules.{rules}
 use Rattle.logwhisker.proofs.open_transaction.Goals as goal
 
 pub returns-clause-refusal_value : goal.returns-clause-refusal_value

@@ -6,7 +6,6 @@ use lib.ListN.{length}
 use borrow.Author.Tests.{eq-eqb}
 use Rattle.card_build.specs.declared.number.SealedFrame.{SealedFrame}
 use Rattle.card_build.specs.Numbering.{sealed_in}
-use borrow.Author.Rules.{rules}
 use Rattle.logwhisker.proofs.seal_frame.Goals as goal
 
 pub returns-clause-refusal_value : goal.returns-clause-refusal_value

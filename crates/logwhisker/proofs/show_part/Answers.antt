@@ -3,7 +3,6 @@
 use mathlib.Core.Path.{◌≡◌}
 use native.Mathlib.Omega.{arith}
 use lib.ListN.{length}
-use borrow.Author.Rules.{rules}
 use Rattle.logwhisker.proofs.Refusals.{shown-refusal}
 use Rattle.logwhisker.proofs.show_part.Goals as goal
 
