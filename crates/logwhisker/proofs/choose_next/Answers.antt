@@ -5,7 +5,6 @@ use native.Mathlib.Omega.{arith}
 use lib.ListN.{length}
 use borrow.Author.Tests.{eq-eqb}
 use Rattle.card_send.specs.Choices.{chosen_in}
-use borrow.Author.Rules.{rules}
 use Rattle.logwhisker.proofs.choose_next.Goals as goal
 
 pub returns : goal.returns

@@ -3,14 +3,11 @@
 use mathlib.Core.Path.{◌≡◌}
 use native.Mathlib.Omega.{arith}
 use lib.ListN.{length}
-use borrow.Author.Rules.{rules}
 use Rattle.logwhisker.proofs.Refusals.{chosen-refusal}
 use Rattle.logwhisker.proofs.choose_part.Goals as goal
 
-pub returns : goal.returns
-returns c =
+pub returns-clause-refusal_value : goal.returns-clause-refusal_value
+returns-clause-refusal_value c =
     let a = c.args in
-    let long : length a.words.now ≡ 85 = omega arith in record {
-      value = c.choose_part.ensures;
-      refusal_value = chosen-refusal a.words.now a.slots.now long a.ack.now _ c.choose_part.ensures;
-    }
+    let long : length a.words.now ≡ 85 = omega arith in
+    chosen-refusal a.words.now a.slots.now long a.ack.now _ c.choose_part.ensures

@@ -3,14 +3,11 @@
 use mathlib.Core.Path.{◌≡◌}
 use native.Mathlib.Omega.{arith}
 use lib.ListN.{length}
-use borrow.Author.Rules.{rules}
 use Rattle.logwhisker.proofs.Refusals.{shown-refusal}
 use Rattle.logwhisker.proofs.show_part.Goals as goal
 
-pub returns : goal.returns
-returns c =
+pub returns-clause-refusal_value : goal.returns-clause-refusal_value
+returns-clause-refusal_value c =
     let a = c.args in
-    let long : length a.words.now ≡ 85 = omega arith in record {
-      value = c.show_part.ensures;
-      refusal_value = shown-refusal a.words.now a.slots.now long a.number.0 _ c.show_part.ensures;
-    }
+    let long : length a.words.now ≡ 85 = omega arith in
+    shown-refusal a.words.now a.slots.now long a.number.0 _ c.show_part.ensures

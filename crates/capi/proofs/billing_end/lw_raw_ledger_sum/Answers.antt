@@ -1,7 +1,0 @@
--- `capi::billing_end::lw_raw_ledger_sum`: the sum by the face.
--- Assumes nothing.
-use borrow.Author.Rules.{rules}
-use Rattle.capi.proofs.billing_end.lw_raw_ledger_sum.Goals as goal
-
-pub returns : goal.returns
-returns c = c.sum.ensures

@@ -1,9 +1,0 @@
--- `capi::frame::lw_source`: a field of the header that `header_in` promises.
--- Assumes nothing.
-use mathlib.Core.Path.{ap}
-use Rattle.wire.specs.declared.FrameHeader.{FrameHeader}
-use borrow.Author.Rules.{rules}
-use Rattle.capi.proofs.frame.lw_source.Goals as goal
-
-pub returns : goal.returns
-returns c = ap (λ (h : FrameHeader). h.source) c.header_in.ensures
