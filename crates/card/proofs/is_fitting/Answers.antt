@@ -3,7 +3,6 @@
 use native.Mathlib.Omega.{arith}
 use borrow.Author.Tests.{lt-leb, le-leb}
 use Rattle.card.specs.Card.{fits}
-use borrow.Author.Rules.{rules}
 use Rattle.card.proofs.is_fitting.Goals as goal
 
 pub returns-then-limit-lt34 : goal.returns-then-limit-lt34

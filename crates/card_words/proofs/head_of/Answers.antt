@@ -1,7 +1,6 @@
 -- `head_of`: the five words, as they are decoded.
 -- Assumes nothing.
 use Rattle.card_words.specs.Words.{card_of}
-use borrow.Author.Rules.{rules}
 use Rattle.card_words.proofs.head_of.Goals as goal
 
 pub returns : goal.returns

@@ -2,7 +2,6 @@
 -- Assumes nothing.
 use mathlib.Core.Path.{sym}
 use Rattle.card_words.proofs.Words.{sending-is}
-use borrow.Author.Rules.{rules}
 use Rattle.card_words.proofs.sending_at.Goals as goal
 
 pub returns : goal.returns

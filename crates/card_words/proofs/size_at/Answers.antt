@@ -2,7 +2,6 @@
 -- Assumes nothing.
 use mathlib.Core.Path.{sym, ◌∙◌}
 use Rattle.card_words.proofs.Words.{size_is}
-use borrow.Author.Rules.{rules}
 use Rattle.card_words.proofs.size_at.Goals as goal
 
 pub returns : goal.returns

@@ -1,6 +1,5 @@
 -- `refusal::class_number`: each class has its number.
 -- Assumes nothing.
-use borrow.Author.Rules.{rules}
 use Rattle.refusal.proofs.class_number.Goals as goal
 
 pub returns-in-Other : goal.returns-in-Other

@@ -4,7 +4,6 @@ use mathlib.Core.Path.{◌≡◌, sym, ◌∙◌}
 use native.Mathlib.Omega.{arith}
 use Rattle.wire.specs.Format.{next_header}
 use Rattle.wire.proofs.Format.{header-after, no-header-after}
-use borrow.Author.Rules.{rules}
 use Rattle.wire.proofs.next_header.Goals as goal
 
 pub returns-then-end-gt-LAST_HEADER : goal.returns-then-end-gt-LAST_HEADER

@@ -5,7 +5,6 @@ use Prim.Native.Nat.{◌≤◌}
 use native.Mathlib.Omega.{arith}
 use lib.ListN.{length, get_or-eq_default}
 use Rattle.octets.proofs.Octets.{field-1}
-use borrow.Author.Rules.{rules}
 use Rattle.wire_read.proofs.byte_or_zero.Goals as goal
 
 pub returns-then-at-f : goal.returns-then-at-f

@@ -3,7 +3,6 @@
 use native.Mathlib.Nat.{add-sub_cancel_left}
 use native.Mathlib.Omega.{arith}
 use Rattle.wire_read.proofs.Finding.{data-past, data-whole}
-use borrow.Author.Rules.{rules}
 use Rattle.wire_read.proofs.data_at.Goals as goal
 
 pub returns-then-size-lt-MESSAGE_HEADER : goal.returns-then-size-lt-MESSAGE_HEADER

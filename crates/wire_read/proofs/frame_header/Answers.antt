@@ -1,7 +1,6 @@
 -- `wire_read::frame_header`: each field as the definition reads it.
 -- Assumes nothing.
 use Rattle.wire_read.specs.Finding.{header_of}
-use borrow.Author.Rules.{rules}
 use Rattle.wire_read.proofs.frame_header.Goals as goal
 
 pub returns : goal.returns

@@ -3,7 +3,6 @@
 use Rattle.wire.specs.Format.{message_header}
 use Rattle.wire.specs.Reading.{message_at}
 use Rattle.wire_read.specs.Finding.{head_at}
-use borrow.Author.Rules.{rules}
 use Rattle.wire_read.proofs.header_in.Goals as goal
 
 pub returns : goal.returns

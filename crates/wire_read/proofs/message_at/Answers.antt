@@ -7,7 +7,6 @@ use Rattle.octets.proofs.Octets.{field-1}
 use Rattle.wire.specs.Reading.{follows, data_end}
 use Rattle.wire.proofs.Format.{header-after}
 use Rattle.wire_read.proofs.Finding.{found-past, found-whole}
-use borrow.Author.Rules.{rules}
 use Rattle.wire_read.proofs.message_at.Goals as goal
 
 pub returns-then-size-lt-MESSAGE_HEADER : goal.returns-then-size-lt-MESSAGE_HEADER

@@ -2,7 +2,6 @@
 -- Assumes nothing.
 use native.Mathlib.Omega.{arith}
 use Rattle.octets.proofs.Octets.{field-2}
-use borrow.Author.Rules.{rules}
 use Rattle.wire_read.proofs.u16_in.Goals as goal
 
 pub returns : goal.returns

@@ -3,7 +3,6 @@
 use Prim.Native.Nat.{◌+◌}
 use native.Mathlib.Omega.{arith}
 use Rattle.octets.proofs.Octets.{field-1, field-2}
-use borrow.Author.Rules.{rules}
 use Rattle.wire_read.proofs.u16_or_zero.Goals as goal
 
 pub returns : goal.returns

@@ -1,7 +1,6 @@
 -- `wire_read::u32_in`: a field of four bytes, byte by byte.
 -- Assumes nothing.
 use Rattle.octets.proofs.Octets.{field-4}
-use borrow.Author.Rules.{rules}
 use Rattle.wire_read.proofs.u32_in.Goals as goal
 
 pub returns : goal.returns

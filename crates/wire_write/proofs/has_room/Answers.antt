@@ -5,7 +5,6 @@ use Prim.Native.Nat.{◌+◌}
 use native.Mathlib.Omega.{arith}
 use lib.ListN.{length}
 use Rattle.wire.proofs.Building.{room-by-slot, no_room}
-use borrow.Author.Rules.{rules}
 use Rattle.wire_write.proofs.has_room.Goals as goal
 
 pub returns-then-at-gt-FRAME_MOST : goal.returns-then-at-gt-FRAME_MOST

@@ -3,7 +3,6 @@
 use mathlib.Core.Path.{◌∙◌}
 use native.Mathlib.Omega.{arith}
 use Rattle.wire.proofs.Format.{next-after, next-first, next-gap, header-after}
-use borrow.Author.Rules.{rules}
 use Rattle.wire_write.proofs.header_behind.Goals as goal
 
 pub returns : goal.returns

@@ -2,7 +2,6 @@
 -- Assumes nothing.
 use Rattle.wire.specs.Format.{carrying}
 use Rattle.wire_write.proofs.Written.{message-put}
-use borrow.Author.Rules.{rules}
 use Rattle.wire_write.proofs.put_message.Goals as goal
 
 pub returns : goal.returns

@@ -4,7 +4,6 @@ use mathlib.Core.Path.{refl, sym}
 use Prim.Native.Nat.{◌+◌}
 use native.Mathlib.Omega.{arith}
 use lib.Seq.{set_out}
-use borrow.Author.Rules.{rules}
 use Rattle.wire_write.proofs.set_follows.Goals as goal
 
 pub returns-then-slot-lt-MESSAGE_HEADER : goal.returns-then-slot-lt-MESSAGE_HEADER

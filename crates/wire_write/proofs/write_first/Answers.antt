@@ -10,7 +10,6 @@ use Rattle.wire.specs.Format.{carrying}
 use Rattle.wire.specs.Writing.{end_of, room_for}
 use Rattle.wire.proofs.Building.{room-slot}
 use Rattle.wire_write.proofs.Written.{first-put, first-refused}
-use borrow.Author.Rules.{rules}
 use Rattle.wire_write.proofs.write_first.Goals as goal
 
 pub returns-then-not-has_room : goal.returns-then-not-has_room

@@ -11,7 +11,6 @@ use Rattle.wire.specs.Writing.{end_of, gap_at, room_for}
 use Rattle.wire.proofs.Format.{next-after}
 use Rattle.wire.proofs.Building.{room-slot, no_room}
 use Rattle.wire_write.proofs.Written.{front-alike, next-put, next-refused}
-use borrow.Author.Rules.{rules}
 use Rattle.wire_write.proofs.write_next.Goals as goal
 
 pub returns-then-used-gt-FRAME_MOST : goal.returns-then-used-gt-FRAME_MOST

@@ -2,7 +2,6 @@
 -- Assumes nothing.
 use native.Mathlib.Omega.{arith}
 use Rattle.words.specs.Words.{of_parts}
-use borrow.Author.Rules.{rules}
 use Rattle.words.proofs.of_quarters.Goals as goal
 
 pub returns : goal.returns

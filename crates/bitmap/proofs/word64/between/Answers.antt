@@ -1,7 +1,6 @@
 -- `word64::between`: what lies below the end and not below the start.
 -- Assumes nothing.
 use Rattle.bitmap.proofs.Masks.{between_is}
-use borrow.Author.Rules.{rules}
 use Rattle.bitmap.proofs.word64.between.Goals as goal
 
 pub returns : goal.returns

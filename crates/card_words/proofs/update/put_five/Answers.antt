@@ -1,6 +1,5 @@
 -- `put_five`: a run of five stores.
 -- Assumes nothing.
-use borrow.Author.Rules.{rules}
 use Rattle.card_words.proofs.update.put_five.Goals as goal
 
 pub returns : goal.returns

@@ -4,7 +4,6 @@ use mathlib.Core.Path.{refl}
 use native.Mathlib.Omega.{arith}
 use Rattle.words.proofs.Words.{quartered, halved}
 use Rattle.card_words.proofs.update.Words.{headed-card}
-use borrow.Author.Rules.{rules}
 use Rattle.card_words.proofs.update.put_head.Goals as goal
 
 pub returns-then-w-ne-CARD_WORDS : goal.returns-then-w-ne-CARD_WORDS
@@ -12,8 +11,7 @@ returns-then-w-ne-CARD_WORDS c = (λ l. absurd (c.if-w-ne-CARD_WORDS.true l), λ
 
 pub returns : goal.returns
 returns c =
-    let a = c.args in
-    (
+    let a = c.args in (
       λ l. rw (
         c.put_five.ensures,
         c.of_quarters-ids.ensures,

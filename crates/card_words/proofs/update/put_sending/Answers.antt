@@ -4,7 +4,6 @@ use mathlib.Core.Path.{refl}
 use native.Mathlib.Omega.{arith}
 use Rattle.words.proofs.Words.{quartered, halved}
 use Rattle.card_words.proofs.update.Words.{entered-card, sending-by}
-use borrow.Author.Rules.{rules}
 use Rattle.card_words.proofs.update.put_sending.Goals as goal
 
 pub returns-then-w-ne-CARD_WORDS : goal.returns-then-w-ne-CARD_WORDS
@@ -12,8 +11,7 @@ returns-then-w-ne-CARD_WORDS c = (λ l. absurd (c.if-w-ne-CARD_WORDS.true l), λ
 
 pub returns : goal.returns
 returns c =
-    let a = c.args in
-    (
+    let a = c.args in (
       λ l. rw (c.put-2.ensures, c.put.ensures, c.of_quarters-counts.ensures, c.of_halves-terms.ensures)
           (entered-card a.w.now a.t.0 _ _ l a.e
           (sending-by _ _ a.e

@@ -1,13 +1,7 @@
 -- `hexadecimal::feed::take_each`: from character to character, as the definition goes.
 -- Assumes nothing.
 use mathlib.Core.Path.{refl}
-use Prim.Native.Nat.{◌-◌}
-use native.Mathlib.Omega.{arith}
 use borrow.Author.Tests.{not-true, not-false}
-use borrow.Author.Rules.{rules}
-use lib.ListN.{length}
-use Rattle.hexadecimal.specs.Taking.{state}
-use Rattle.hexadecimal.specs.Walking.{Walked}
 use Rattle.hexadecimal.proofs.line.Digits.{looked-up, value-is, value_none}
 use Rattle.hexadecimal.proofs.line.Taking.{
   walked_start,

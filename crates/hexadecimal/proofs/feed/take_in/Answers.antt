@@ -1,7 +1,6 @@
 -- `hexadecimal::feed::take_in`: the pairs of digits first; then the line's end, or what is left from character to character.
 -- Assumes nothing.
 use mathlib.Core.Path.{◌∙◌}
-use borrow.Author.Rules.{rules}
 use Rattle.hexadecimal.proofs.line.Taking.{walked-newline, walked-rest}
 use Rattle.hexadecimal.proofs.pairs.Laws.{front-walked}
 use Rattle.hexadecimal.proofs.feed.take_in.Goals as goal

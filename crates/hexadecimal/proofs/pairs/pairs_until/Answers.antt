@@ -1,6 +1,5 @@
 -- `hexadecimal::pairs::pairs_until`: what is added to the count is the most that can be taken.
 -- Assumes nothing.
-use borrow.Author.Rules.{rules}
 use Rattle.hexadecimal.proofs.pairs.Laws.{most-full, most-past, most-sum}
 use Rattle.hexadecimal.proofs.pairs.pairs_until.Goals as goal
 

@@ -1,10 +1,7 @@
 -- `hexadecimal::pairs::take_pairs`: each turn takes a pair of what is left to take, and the piece has two characters for each.
 -- Assumes nothing.
-use Prim.Native.Nat.{◌-◌}
-use native.Mathlib.Omega.{arith}
-use borrow.Author.Rules.{rules}
 use Rattle.hexadecimal.proofs.line.Digits.{looked-up}
-use Rattle.hexadecimal.proofs.pairs.Laws.{Left, left-start, left-waiting, left-high, left-low, left-turn, left-done}
+use Rattle.hexadecimal.proofs.pairs.Laws.{left-start, left-waiting, left-high, left-low, left-turn, left-done}
 use Rattle.hexadecimal.proofs.pairs.take_pairs.Goals as goal
 
 pub returns-then-line : goal.returns-then-line

@@ -1,6 +1,5 @@
 -- `TransNo::advance` is the number d on: the wrapping sum is the definition itself.
 -- Assumes nothing.
-use Rattle.std.proofs.Common.{rules}
 use Rattle.seq.specs.Ring.{advance}
 use Rattle.seq.proofs.TransNo.advance.Goals as goal
 

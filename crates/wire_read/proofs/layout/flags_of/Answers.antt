@@ -3,7 +3,6 @@
 use mathlib.Core.Path.{ap}
 use Rattle.wire.specs.declared.FrameHeader.{FrameHeader}
 use Rattle.wire_read.specs.Finding.{header_of}
-use borrow.Author.Rules.{rules}
 use Rattle.wire_read.proofs.layout.flags_of.Goals as goal
 
 pub returns : goal.returns

@@ -1,6 +1,5 @@
 -- `wire_read::layout::heading_refusal`: the heading of a frame between these two.
 -- Assumes nothing.
-use borrow.Author.Rules.{rules}
 use Rattle.wire_read.proofs.layout.heading_refusal.Goals as goal
 
 pub returns : goal.returns

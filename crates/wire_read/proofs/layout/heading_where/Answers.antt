@@ -4,7 +4,6 @@ use mathlib.Core.Path.{sym}
 use native.Mathlib.Omega.{arith}
 use borrow.Author.Tests.{not-true, not-false}
 use Rattle.wire.proofs.Reading.{heading-0, heading-1, heading-2, heading-3, heading-4}
-use borrow.Author.Rules.{rules}
 use Rattle.wire_read.proofs.layout.heading_where.Goals as goal
 
 pub returns-then-f-lt-FRAME_HEADER : goal.returns-then-f-lt-FRAME_HEADER

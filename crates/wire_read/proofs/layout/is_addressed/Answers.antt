@@ -5,7 +5,6 @@ use borrow.Author.Tests.{eq-eqb, ne_eqb}
 use Rattle.wire.specs.declared.FrameHeader.{FrameHeader}
 use Rattle.wire.specs.Reading.{addressed}
 use Rattle.wire_read.specs.Finding.{header_of}
-use borrow.Author.Rules.{rules}
 use Rattle.wire_read.proofs.layout.is_addressed.Goals as goal
 
 pub returns-then-head-own : goal.returns-then-head-own

@@ -1,6 +1,5 @@
 -- `wire_read::layout::layout_of`: the layout of a frame whose IDs are the expected ones.
 -- Assumes nothing.
-use borrow.Author.Rules.{rules}
 use Rattle.wire_read.proofs.layout.layout_of.Goals as goal
 
 pub returns : goal.returns

@@ -4,7 +4,6 @@ use mathlib.Core.Path.{sym, ap, ◌∙◌}
 use native.Mathlib.Omega.{arith}
 use Rattle.wire.proofs.Reading.{heading-stops, heading-stands, read_none, read-messages}
 use Rattle.wire_read.specs.Layout.{total, layout_of}
-use borrow.Author.Rules.{rules}
 use Rattle.wire_read.proofs.layout.layout_where.Goals as goal
 
 pub returns-then-stop-ne0 : goal.returns-then-stop-ne0

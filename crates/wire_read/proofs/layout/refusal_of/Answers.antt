@@ -4,7 +4,6 @@ use mathlib.Core.Path.{ap, ◌∙◌}
 use Rattle.wire.specs.Reading.{addressed, read_frame}
 use Rattle.wire_read.specs.Layout.{number_of}
 use Rattle.wire_read.proofs.layout.Reading.{number-layout}
-use borrow.Author.Rules.{rules}
 use Rattle.wire_read.proofs.layout.refusal_of.Goals as goal
 
 pub returns : goal.returns

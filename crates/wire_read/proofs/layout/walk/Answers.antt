@@ -1,13 +1,10 @@
 -- `wire_read::layout::walk` goes from message to message as the definition does.
 -- Assumes nothing.
 use mathlib.Core.Path.{sym, ◌∙◌}
-use Prim.Native.Nat.{◌+◌, ◌-◌, ◌≤◌}
 use native.Mathlib.Omega.{arith}
 use borrow.Author.Tests.{not-true, not-false}
-use borrow.Author.Rules.{rules}
-use lib.ListN.{length}
 use Rattle.wire_read.proofs.Finding.{is_whole}
-use Rattle.wire_read.proofs.layout.Reading.{Walked, walked_start, walked-past, walked-last, walked-turn}
+use Rattle.wire_read.proofs.layout.Reading.{walked_start, walked-past, walked-last, walked-turn}
 use Rattle.wire_read.proofs.layout.walk.Goals as goal
 
 pub loop-len-init : goal.loop-len-init
@@ -37,8 +34,7 @@ loop-len-smaller c =
     omega (arith, c.loop-len.invariant.0, is_whole found)
 
 pub loop-len-preserved : goal.loop-len-preserved
-loop-len-preserved c =
-    (
+loop-len-preserved c = (
   walked-turn c.loop-len.invariant.0
       (sym c.message_at-found.ensures ∙ c.in-Whole.is)
       (not-false _ c.if-not-more.false-raw),

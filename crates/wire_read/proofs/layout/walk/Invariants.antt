@@ -1,13 +1,8 @@
 -- `wire_read::layout::walk` goes from message to message as the definition does.
 -- Assumes nothing.
-use mathlib.Core.Path.{sym, ◌∙◌}
 use Prim.Native.Nat.{◌+◌, ◌-◌, ◌≤◌}
-use native.Mathlib.Omega.{arith}
-use borrow.Author.Tests.{not-true, not-false}
-use borrow.Author.Rules.{rules}
 use lib.ListN.{length}
-use Rattle.wire_read.proofs.Finding.{is_whole}
-use Rattle.wire_read.proofs.layout.Reading.{Walked, walked_start, walked-past, walked-last, walked-turn}
+use Rattle.wire_read.proofs.layout.Reading.{Walked}
 use Rattle.wire_read.proofs.layout.walk.Given as goal
 
 abbrev pub invariant-loop-len : goal.invariant-loop-len

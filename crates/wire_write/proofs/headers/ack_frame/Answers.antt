@@ -3,7 +3,6 @@
 use mathlib.Core.Path.{◌∙◌}
 use borrow.Author.Tests.{eq-eqb, ne_eqb}
 use Rattle.wire.specs.Writing.{ack_frame}
-use borrow.Author.Rules.{rules}
 use Rattle.wire_write.proofs.headers.ack_frame.Goals as goal
 
 pub returns-then-count-eq0 : goal.returns-then-count-eq0

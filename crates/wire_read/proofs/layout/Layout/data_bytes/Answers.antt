@@ -1,7 +1,6 @@
 -- `wire_read::layout::Layout::data_bytes`: the second count, or none.
 -- Assumes nothing.
 use mathlib.Core.Path.{refl}
-use borrow.Author.Rules.{rules}
 use Rattle.wire_read.proofs.layout.Layout.data_bytes.Goals as goal
 
 pub returns-in-Refused : goal.returns-in-Refused

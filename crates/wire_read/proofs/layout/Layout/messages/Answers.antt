@@ -1,7 +1,6 @@
 -- `wire_read::layout::Layout::messages`: the first count, or none.
 -- Assumes nothing.
 use mathlib.Core.Path.{refl}
-use borrow.Author.Rules.{rules}
 use Rattle.wire_read.proofs.layout.Layout.messages.Goals as goal
 
 pub returns-in-Refused : goal.returns-in-Refused
