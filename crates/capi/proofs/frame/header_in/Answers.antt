@@ -8,7 +8,6 @@ use Rattle.wire_read.specs.declared.layout.Layout.{Layout}
 use Rattle.wire_read.specs.declared.layout.Layout.TheVariants.{Refused, Counts}
 use Rattle.wire_read.specs.Finding.{header_of}
 use Rattle.capi.specs.Numbers.{layout_in, header_in}
-use borrow.Author.Rules.{rules}
 use Rattle.capi.proofs.frame.header_in.Goals as goal
 
 abbrev zeros : FrameHeader
