@@ -227,6 +227,12 @@ def determines(definition, at, unknown):
     return covers({c for c, right in equating if not any(speaks_of(right, other) for other in others)})
 
 
+def equated(definition, at):
+    """Whether a relation's definition equates its parameter at this index with something, in whatever case."""
+    parameters, equations = definition
+    return at < len(parameters) and any(is_left(left, parameters[at]) for _, left, _ in equations)
+
+
 def covers(where):
     """Whether lists of conditions leave no case out: one has no condition, or two first conditions are contrary, and
     behind each of them no case is left out."""
@@ -237,13 +243,15 @@ def covers(where):
 
 
 def related(function, subject, relations, lets_off):
-    """Whether a relation that the function promises equates the subject. lets_off says of a relation whether its cases
-    are all, though they are not each other's contrary."""
+    """Whether a relation that the function promises equates the subject. lets_off says of a relation whether the cases
+    in which it does are all, though they are not each other's contrary."""
     for name, arguments in function.relations():
         unknown = [at for at, argument in enumerate(arguments) if not is_given(argument)]
         for at, argument in enumerate(arguments):
             if argument in (subject, f"{subject}.now") and name in relations:
-                if all(determines(definition, at, unknown) for definition in relations[name]) or lets_off(name):
+                if all(determines(definition, at, unknown) for definition in relations[name]):
+                    return True
+                if all(equated(definition, at) for definition in relations[name]) and lets_off(name):
                     return True
     return False
 
