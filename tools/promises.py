@@ -31,6 +31,8 @@ RESULT = re.compile(r"\s*->\s*(.*?)\s*(?=\b(?:ghost|requires|ensures|where)\b|\{
 # A parameter that is lent for writing, and its name.
 LENT = re.compile(r"(?:(?:mut\s+)?(\w+)\s*:\s*)?&\s*(?:'\w+\s+)?mut\b")
 OPENING, CLOSING = "({[", ")}]"
+# How a fault begins that is only that something is not equated.
+MISSING = "has no `ensures` that equates"
 
 
 class Function:
@@ -298,9 +300,9 @@ def faults(function, relations, structs, lets_off):
     if any(kind.startswith("requires") for kind, _ in function.clauses):
         yield "has a `requires`"
     if function.result not in ("", "()") and not equates_result(function, relations, structs, lets_off):
-        yield "has no `ensures` that equates its result"
+        yield f"{MISSING} its result"
     for parameter in function.lent_unread():
         yield f"lends for writing in a form that is not read: {bare(parameter)}"
     for parameter in function.lent_for_writing():
         if not equates(function, f"{parameter}.new", relations, lets_off):
-            yield f"has no `ensures` that equates {parameter} at exit"
+            yield f"{MISSING} {parameter} at exit"
