@@ -6,10 +6,16 @@ SEED ?= 2
 # The header says which version this is.
 VERSION := $(shell sed -n 's/^.define LW_VERSION "\(.*\)"/\1/p' include/logwhisker.h)
 
-# The library for C: the crates of exported functions, made anew after a change of any source.
-EXPORTS := $(shell sed -n 's/^\(capi[a-z_]*\):.*/\1/p' crates.txt)
+# What is proved and then built is made anew after a change of any source.
+SOURCES := crates.txt $(wildcard crates/*/src/*.rt crates/*/specs/*.antt)
+
+# The library for C: the static libraries of exported functions, in one archive.
+EXPORTS := $(shell sed -n 's/^\([a-z_]*\) staticlib:.*/\1/p' crates.txt)
 LIBRARY := target/staticlib/liblogwhisker.a
-LIBRARY_SOURCES := $(wildcard crates/*/src/*.rt crates/*/specs/*.antt)
+
+# The replay program, and with PLAIN=1 its sister, which runs the plain host.
+REPLAY := $(if $(filter 1,$(PLAIN)),replay_plain,replay)
+PROGRAM = crates/$(1)/out/$(1)
 
 .PHONY: test check library replay calls demo bench bench-instructions soak install pictures plots clean
 
@@ -28,17 +34,16 @@ test:
 
 # Proves every crate that changed since it was last proved.
 check:
-	rt check
+	rt all check
 
-# Proves, builds and runs the replay on a sample capture, or on FRAMES=file; with PLAIN=1 its sister, which runs the
-# plain host.
-REPLAY := $(if $(filter 1,$(PLAIN)),replay_plain,replay)
+# Proves, builds and runs the replay on a sample capture, or on FRAMES=file.
+replay: $(call PROGRAM,$(REPLAY))
+	@$< < $(FRAMES)
 
-replay:
-	@[ -x target/bin/$(REPLAY) ] || \
-		echo 'make replay: proves the replay and all below it first, which takes some minutes' >&2
-	@tools/prove $(REPLAY)
-	@target/bin/$(REPLAY) < $(FRAMES)
+$(call PROGRAM,replay) $(call PROGRAM,replay_plain): $(SOURCES)
+	@echo 'make $(@F): proves it and all below it first, which can take many minutes' >&2
+	@tools/prove $(@F)
+	@touch $@
 
 # Proves and builds the library for C: target/staticlib/liblogwhisker.a.
 library: $(LIBRARY)
@@ -68,11 +73,10 @@ BENCH_PROGRAMS := target/rust/bench-release
 
 bench:
 	@echo 'make bench: about 7 minutes for all lines, once the library and the replay are proved' >&2
-	rt check replay
-	$(MAKE) library
+	$(MAKE) library $(call PROGRAM,replay)
 	$(BENCH_BUILD)
 	@$(BENCH_PROGRAMS)/bench-ends '$(BENCH)'; kept=$$?; \
-		$(BENCH_PROGRAMS)/bench-replay target/bin/replay '$(BENCH)' && exit $$kept
+		$(BENCH_PROGRAMS)/bench-replay $(call PROGRAM,replay) '$(BENCH)' && exit $$kept
 
 # Counts the instructions of both hosts on each shape, by valgrind; BENCH=part as above.
 bench-instructions: $(LIBRARY)
@@ -82,9 +86,7 @@ bench-instructions: $(LIBRARY)
 # What takes too long for the gate: a file of 1 GB through the replay, and the comparisons with the independent
 # implementation ten times as long, from SEED=number on. It needs 1 GB of disk below target/.
 soak:
-	rt check replay
-	rt check replay_plain
-	$(MAKE) library calls
+	$(MAKE) library calls $(call PROGRAM,replay) $(call PROGRAM,replay_plain)
 	cd rust && cargo test --offline --locked --release -p logwhisker --test streams -- --include-ignored --nocapture
 	cd rust && LW_SEED=$(SEED) LW_INPUTS=12000000 LW_FRAMES=4000000 LW_LINES=20000000 LW_SCRIPTS=240 \
 		LW_LISTS=4000 LW_LONG_LISTS=10 LW_CALLS_OF_CARD=6000000 LW_TEXTS=600000 LW_TABLES=4000 LW_BLOCKS=400000 \
@@ -104,12 +106,14 @@ $(INSTALLED_LIB): $(LIBRARY) include/logwhisker.h include/logwhisker.pc.in
 	@$(MAKE) --no-print-directory install PREFIX='$(CURDIR)/$(INSTALLED)' DESTDIR=
 	@touch $@
 
-# One archive of those that the exports give.
-$(LIBRARY): $(LIBRARY_SOURCES)
-	for crate in $(EXPORTS); do rt staticlib $$crate || exit 1; done
+# One archive of those that the exports give, which have objects of different names.
+$(LIBRARY): $(SOURCES)
+	@[ -n '$(EXPORTS)' ] || { echo 'make library: crates.txt has no static library' >&2; exit 1; }
+	@echo 'make library: proves it and all below it first, which can take many minutes' >&2
+	@for crate in $(EXPORTS); do tools/prove $$crate || exit 1; done
 	rm -rf target/objects $@
-	mkdir -p target/objects
-	cd target/objects && for crate in $(EXPORTS); do ar x ../staticlib/lib$$crate.a || exit 1; done
+	mkdir -p target/objects $(@D)
+	cd target/objects && for crate in $(EXPORTS); do ar x ../../crates/$$crate/out/lib$$crate.a || exit 1; done
 	ar rcs $@ target/objects/*.o
 
 # Makes the pictures anew; the gate asks for it after a change of crates.txt.
@@ -121,5 +125,6 @@ plots:
 	python3 docs/pictures/plots.py target/bench/ends.tsv
 	python3 docs/pictures/make.py
 
+# Removes what was built, but not what is kept of the proofs, in crates/*/out: without that all is proved anew.
 clean:
 	rm -rf target

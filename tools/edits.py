@@ -1,7 +1,6 @@
-"""Reads the must-fail edits, for tools/check-claims and tools/try-edits.
+"""Reads the must-fail edits, for tools/check-claims.
 
-An edit is a file LABEL.edit in crates/NAME/must-fail, which `rt ci` tries, or in crates/NAME/must-fail/incremental,
-which tools/try-edits tries. Its lines:
+An edit is a file LABEL.edit in crates/NAME/must-fail, which `rt ci` tries. Its lines:
   # what it tries        comments; the functions whose promise it breaks stand in them in backquotes
   # rows: H5, N7         the rules of docs/RULES.md that it is for, if there are any
   file: src/lib.rt       a file of the crate; it holds for the pairs behind it
@@ -12,8 +11,6 @@ import functools
 import glob
 import os
 import re
-
-FOLDERS = ("must-fail", "must-fail/incremental")
 
 
 class Edit:
@@ -46,9 +43,9 @@ class Edit:
 
 
 @functools.cache
-def edits_of(crate, folders=FOLDERS):
-    """The edits of a crate in some folders, by label; `*` stands for every crate."""
-    paths = [path for folder in folders for path in glob.glob(f"crates/{crate}/{folder}/*.edit")]
+def edits_of(crate):
+    """The edits of a crate, by label; `*` stands for every crate."""
+    paths = glob.glob(f"crates/{crate}/must-fail/*.edit")
     return [Edit(path) for path in sorted(paths, key=lambda path: (path.split("/")[1], os.path.basename(path)))]
 
 

@@ -3,48 +3,54 @@
 The rules ask of every public function (S1, S3) that its promise equates its result, and every buffer that it may
 write as it is at exit, with a definition, over any input. So for each `pub fn`:
   no `requires`;
-  if it returns something, an `ensures` with an equation whose left side is the result;
-  for each parameter of type `&mut`, an `ensures` with an equation whose left side is that parameter at exit.
-An equation whose right side speaks of the result, or of anything at exit, does not count: two of them could lean on
-each other and say nothing. Nor does one under a condition, or one of a choice. A relation that a file of specs/ defines
-counts where its definition so equates: without a condition, or in both of two cases `a ≡ b → ..` and `a ≢ b → ..`, each
-of which may be parted again; a relation that it names is read in its place. A result that is a struct is also known
-where every field of it is equated.
-What else is needed is an exemption with its reason (EXEMPT in tools/check-claims). A function or a parameter of a form
-that is not read here is a fault, so that none goes by unread.
+  if it returns something, an `ensures` with an equation whose left side is `result`, or `result.now`;
+  for each parameter `x` of type `&mut`, an `ensures` with an equation whose left side is `x.new`.
+Whether a clause has a name does not matter, nor in how many clauses the equations stand. An equation whose right side
+speaks of the result, or of anything at exit, does not count: two of them could lean on each other and say nothing. Nor
+does one under a condition, one of a choice or of an equivalence, or one of a value that only is claimed to be there
+(`(k : ℕ) × ..`). A relation that a file of specs/ defines counts where its definition so equates: without a condition,
+or in both of two cases `a ≡ b → ..` and `a ≢ b → ..`, each of which may be parted again; a relation that it names is
+read in its place. A result that is a struct is also known where every field of it is equated.
+What else is needed is an exemption with its reason (EXEMPT in tools/check-claims). A function, a clause or a parameter
+of a form that is not read here is a fault, so that none goes by unread.
 """
 import re
 
 # Under these functions a result or a buffer at exit may be equated: the state that words stand for. What is left open
 # then is what the words do not mean.
-MEANINGS = ("pairOf", "card_of", "tableOf", "ledger_in")
+MEANINGS = ("pair_of", "card_of", "table_of", "ledger_in")
 # The same of several buffers that hold one state together: each is an argument.
 MEANINGS_TOGETHER = ("replaying_of",)
 
 HEAD = re.compile(r'(?:\b(pub)\s+)?(?:\bextern\s+"C"\s+)?\bfn\s+(\w+)\s*(?:<[^>]*>)?\s*\(')
 # What may be a public function, in whatever form. `pub(crate)` is none: the kit hides such a function from other crates.
 ANY_HEAD = re.compile(r"\bpub\b(?!\(crate\))[^;{}()]*(?:\([^)]*\)[^;{}()]*)?\bfn\b")
-CLAUSE = re.compile(r"\s*(requires|ensures|decreases|measure)\b[^{]*\{")
+# A clause with its name, if it has one. A starred clause, which speaks of memory, is kept as of another kind.
+CLAUSE = re.compile(r"\s*(requires|ensures)\b\s*(\*?)\s*(?:\w+\s*)?\{")
+RESULT = re.compile(r"\s*->\s*(.*?)\s*(?=\b(?:ghost|requires|ensures|where)\b|\{)", flags=re.S)
 # A parameter that is lent for writing, and its name.
 LENT = re.compile(r"(?:(?:mut\s+)?(\w+)\s*:\s*)?&\s*(?:'\w+\s+)?mut\b")
 OPENING, CLOSING = "({[", ")}]"
+# How a fault begins that is only that something is not equated.
+MISSING = "has no `ensures` that equates"
 
 
 class Function:
     """A function: whether it is public, where it stands and ends, its name, parameters, result, clauses, each clause as
-    (kind, text), and body."""
+    (kind, text), body, and whether all between its head and its body was read."""
 
     def __init__(self, head, text):
         self.public, self.name = head.group(1) is not None, head.group(2)
         end = past(text, head.end() - 1)
         self.parameters = [p.strip() for p in split_at(text[head.end() : end - 1], ",") if p.strip()]
-        result = re.match(r"\s*->\s*(.*?)\s*(?=\b(?:requires|ensures|decreases|measure)\b|\{)", text[end:], flags=re.S)
+        result = RESULT.match(text, end)
         self.result, self.clauses = result.group(1) if result else "", []
-        at = end + (result.end() if result else 0)
+        at = result.end() if result else end
         while clause := CLAUSE.match(text, at):
             at = past(text, clause.end() - 1)
-            self.clauses.append((clause.group(1), text[clause.end() : at - 1]))
+            self.clauses.append((clause.group(1) + clause.group(2), text[clause.end() : at - 1]))
         body = text.index("{", at)
+        self.is_read = not text[at:body].strip() and len(split_at(self.result, ";")) == 1
         self.position, self.end = head.start(), past(text, body)
         self.body = text[body : self.end]
 
@@ -61,25 +67,25 @@ class Function:
         """The parameters that lend for writing in another form, such as inside a tuple."""
         return [p for p in self.parameters if not LENT.match(p) and re.search(r"&\s*(?:'\w+\s+)?mut\b", p)]
 
-    def equations(self):
-        """Each equation that it promises, as (name of the result there, left side, right side)."""
+    def promised(self):
+        """The parts of what it promises that stand under no condition and are no choice."""
         for kind, text in self.clauses:
-            said = re.fullmatch(r"\s*λ\s*(\S+?)\.\s*⌜(.*)⌝\s*", text, flags=re.S)
-            if kind == "ensures" and said:
-                for part in filter(is_plain, conjuncts(said.group(2))):
-                    sides = split_at(part, "≡")
-                    if len(sides) == 2:
-                        yield said.group(1), bare(sides[0]), bare(sides[1])
+            if kind == "ensures":
+                yield from filter(is_plain, conjuncts(text))
+
+    def equations(self):
+        """Each equation that it promises, as (left side, right side)."""
+        for part in self.promised():
+            sides = split_at(part, "≡")
+            if len(sides) == 2:
+                yield bare(sides[0]), bare(sides[1])
 
     def relations(self):
-        """Each relation that it promises, as (name of the result there, name of the relation, arguments)."""
-        for kind, text in self.clauses:
-            said = re.fullmatch(r"\s*λ\s*(\S+?)\.\s*⌜(.*)⌝\s*", text, flags=re.S)
-            if kind == "ensures" and said:
-                for part in filter(is_plain, conjuncts(said.group(2))):
-                    name, *arguments = [bare(term) for term in split_at(part, " ")]
-                    if re.fullmatch(r"[A-Z]\w*", name):
-                        yield said.group(1), name, arguments
+        """Each relation that it promises, as (name of the relation, arguments)."""
+        for part in self.promised():
+            name, *arguments = [bare(term) for term in split_at(part, " ")]
+            if re.fullmatch(r"[A-Z]\w*", name):
+                yield name, arguments
 
 
 def without_comments(text):
@@ -118,15 +124,22 @@ def bare(text):
 
 
 def is_plain(text):
-    """Whether a proposition is neither under a condition nor a choice."""
-    return len(split_at(text, "→")) == len(split_at(text, "⊎")) == 1
+    """Whether a proposition is neither under a condition, nor a choice, nor an equivalence."""
+    return all(len(split_at(text, sign)) == 1 for sign in "→⊎↔")
+
+
+def joined(text):
+    """The parts of a plain proposition that × joins, up to one that claims of some value what follows."""
+    parts = split_at(text, "×")
+    some = [at for at, part in enumerate(parts) if re.match(r"[\w' -]+ : ", bare(part))]
+    return parts[: some[0]] if some else parts
 
 
 def conjuncts(text):
     """The parts of a proposition that × joins, at any depth. One under a condition, or a choice, stays whole."""
     text = bare(text)
-    parts = split_at(text, "×") if is_plain(text) else [text]
-    return [text] if len(parts) == 1 else [c for part in parts for c in conjuncts(part)]
+    parts = joined(text) if is_plain(text) else [text]
+    return [text] if parts == [text] else [c for part in parts for c in conjuncts(part)]
 
 
 def functions(text):
@@ -183,8 +196,8 @@ def cases(text, conditions, texts):
         return
     if not is_plain(bare(text)):
         return
-    parts = split_at(bare(text), "×")
-    if len(parts) > 1:
+    parts = joined(bare(text))
+    if parts != [bare(text)]:
         for part in parts:
             yield from cases(part, conditions, texts)
         return
@@ -199,7 +212,8 @@ def cases(text, conditions, texts):
 
 
 def replaced(text, terms):
-    """A text with names replaced by terms, all at once."""
+    """A text with names replaced by terms, all at once. A term of several words stays one, also before a field."""
+    terms = {name: f"({term})" if " " in term else term for name, term in terms.items()}
     return re.sub(r"(?<![\w'.-])[\w'-]+", lambda m: terms.get(m.group(), m.group()), text)
 
 
@@ -211,8 +225,14 @@ def determines(definition, at, unknown):
     if subject is None:
         return False
     others = [parameters[i] for i in {at, *unknown} if i < len(parameters)]
-    equating = [(c, right) for c, left, right in equations if is_left(left, subject, [])]
+    equating = [(c, right) for c, left, right in equations if is_left(left, subject)]
     return covers({c for c, right in equating if not any(speaks_of(right, other) for other in others)})
+
+
+def equated(definition, at):
+    """Whether a relation's definition equates its parameter at this index with something, in whatever case."""
+    parameters, equations = definition
+    return at < len(parameters) and any(is_left(left, parameters[at]) for _, left, _ in equations)
 
 
 def covers(where):
@@ -224,25 +244,27 @@ def covers(where):
     return () in where or any(b in heads and covers(behind[a]) and covers(behind[b]) for a, b in contrary)
 
 
-def related(function, subject_of, relations, lets_off):
-    """Whether a relation that the function promises equates the subject. subject_of gives it by the name of the
-    result there; lets_off says of a relation whether its cases are all, though they are not each other's contrary."""
-    for r, name, arguments in function.relations():
-        unknown = [at for at, argument in enumerate(arguments) if not is_given(argument, r)]
+def related(function, subject, relations, lets_off):
+    """Whether a relation that the function promises equates the subject. lets_off says of a relation whether the cases
+    in which it does are all, though they are not each other's contrary."""
+    for name, arguments in function.relations():
+        unknown = [at for at, argument in enumerate(arguments) if not is_given(argument)]
         for at, argument in enumerate(arguments):
-            if argument in (subject_of(r), f"now {subject_of(r)}") and name in relations:
-                if all(determines(definition, at, unknown) for definition in relations[name]) or lets_off(name):
+            if argument in (subject, f"{subject}.now") and name in relations:
+                if all(determines(definition, at, unknown) for definition in relations[name]):
+                    return True
+                if all(equated(definition, at) for definition in relations[name]) and lets_off(name):
                     return True
     return False
 
 
-def is_left(left, subject, more):
+def is_left(left, subject):
     """Whether the left side of an equation is the subject itself, or what it means."""
-    forms = {subject, f"now {subject}"} | set(more)
-    forms |= {f"{m} {subject}" for m in MEANINGS} | {f"{m} (now {subject})" for m in MEANINGS}
-    meaning, *arguments = split_at(left, " ")
-    together = meaning in MEANINGS_TOGETHER and {subject, f"(now {subject})"} & {a.strip() for a in arguments}
-    return left in forms or bool(together)
+    forms = {subject, f"{subject}.now"}
+    meaning, *arguments = [bare(term) for term in split_at(left, " ")]
+    if meaning in MEANINGS:
+        return len(arguments) == 1 and arguments[0] in forms
+    return left in forms or meaning in MEANINGS_TOGETHER and bool(forms & set(arguments))
 
 
 def speaks_of(side, subject):
@@ -250,37 +272,37 @@ def speaks_of(side, subject):
     return re.search(rf"(?<![\w'.]){re.escape(subject)}(?![\w'])", side) is not None
 
 
-def is_given(side, result):
+def is_given(side):
     """Whether one side of an equation is known from what was handed in: it names neither the result nor an exit."""
-    return ".exit" not in side and (result == "_" or not speaks_of(side, result))
+    return not speaks_of(side, "result") and not re.search(r"\.\s*(?:new|exit)\b", side)
+
+
+def equates(function, subject, relations, lets_off):
+    """Whether a promise of the function says what the subject is, by an equation or a relation."""
+    if related(function, subject, relations, lets_off):
+        return True
+    return any(is_left(left, subject) and is_given(right) for left, right in function.equations())
 
 
 def equates_result(function, relations, structs, lets_off):
     """Whether a promise of the function says what it returns: as a whole, or each field of it."""
-    if related(function, lambda r: r, relations, lets_off):
+    if equates(function, "result", relations, lets_off):
         return True
-    said = [(r, left) for r, left, right in function.equations() if r != "_" and is_given(right, r)]
+    said = [left for left, right in function.equations() if is_given(right)]
     fields = structs.get(function.result, [])
-    each = [any(is_left(left, f"({r} .{field})", [f"{r} .{field}"]) for r, left in said) for field in fields]
-    return any(is_left(left, r, []) for r, left in said) or (fields != [] and all(each))
-
-
-def equates_at_exit(function, parameter, relations, lets_off):
-    """Whether a promise of the function says what a parameter is when it returns."""
-    exit = f"({parameter} .exit)"
-    if related(function, lambda r: exit, relations, lets_off):
-        return True
-    return any(is_left(left, exit, []) and is_given(right, r) for r, left, right in function.equations())
+    return fields != [] and all(any(is_left(left, f"result.{field}") for left in said) for field in fields)
 
 
 def faults(function, relations, structs, lets_off):
     """What is missing in a function's promise, in words."""
-    if any(kind == "requires" for kind, _ in function.clauses):
+    if not function.is_read:
+        yield "has a clause of a form that is not read"
+    if any(kind.startswith("requires") for kind, _ in function.clauses):
         yield "has a `requires`"
     if function.result not in ("", "()") and not equates_result(function, relations, structs, lets_off):
-        yield "has no `ensures` that equates its result"
+        yield f"{MISSING} its result"
     for parameter in function.lent_unread():
         yield f"lends for writing in a form that is not read: {bare(parameter)}"
     for parameter in function.lent_for_writing():
-        if not equates_at_exit(function, parameter, relations, lets_off):
-            yield f"has no `ensures` that equates {parameter} at exit"
+        if not equates(function, f"{parameter}.new", relations, lets_off):
+            yield f"{MISSING} {parameter} at exit"

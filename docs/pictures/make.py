@@ -750,7 +750,9 @@ def read_crates():
         elif line.startswith("# ") and titles:
             row = line[2:]
         elif ":" in line and not line.startswith("#"):
-            name, _, seen = line.partition(":")
+            said, _, seen = line.partition(":")
+            # Behind the name may stand that it is a static library.
+            name = said.split()[0]
             if name.split("_")[0] not in words:
                 raise SystemExit(f"make.py: the name of crate '{name}' begins with no word of its floor, {floor}")
             found[name] = Crate(floor, row, seen.split())

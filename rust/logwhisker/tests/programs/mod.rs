@@ -9,12 +9,11 @@ pub fn path(name: &str) -> PathBuf {
     if let Some(path) = env::var_os(format!("LW_{}", name.to_uppercase())) {
         return path.into();
     }
-    let path = Path::new(env!("CARGO_MANIFEST_DIR"))
-        .join("../../target/bin")
-        .join(name);
-    let made_by = match name {
-        "replay_plain" => "replay PLAIN=1",
-        name => name,
+    let root = Path::new(env!("CARGO_MANIFEST_DIR")).join("../..");
+    let (path, made_by) = match name {
+        "calls" => (root.join("target/bin/calls"), "calls"),
+        "replay_plain" => (program_of(&root, name), "replay PLAIN=1"),
+        name => (program_of(&root, name), name),
     };
     assert!(
         path.is_file(),
@@ -22,6 +21,11 @@ pub fn path(name: &str) -> PathBuf {
         path.display()
     );
     path
+}
+
+/// Where the program of a crate is, once it is proved and built.
+fn program_of(root: &Path, name: &str) -> PathBuf {
+    root.join("crates").join(name).join("out").join(name)
 }
 
 /// The program at work, and both ends of its pipes.
