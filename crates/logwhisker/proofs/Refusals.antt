@@ -37,6 +37,8 @@ module _ (w slots : List ℕ) (long : length w ≡ 85) where
     where
       go : (t : Bool) → eqb (choose_refusal (card_of w) slots ack) 0 ≡ t → (d : Bool) → is_ack ack ≡ d
           → (chosen_part w slots ack).refusal ≡ choose_refusal (card_of w) slots ack
-      go true e true z = rw (eq-eqb (length w) 85 long, e, z) (sym (eqb-true (choose_refusal (card_of w) slots ack) 0 e))
-      go true e false z = rw (eq-eqb (length w) 85 long, e, z) (sym (eqb-true (choose_refusal (card_of w) slots ack) 0 e))
+      go true e true z =
+          rw (eq-eqb (length w) 85 long, e, z) (sym (eqb-true (choose_refusal (card_of w) slots ack) 0 e))
+      go true e false z =
+          rw (eq-eqb (length w) 85 long, e, z) (sym (eqb-true (choose_refusal (card_of w) slots ack) 0 e))
       go false e d z = rw (eq-eqb (length w) 85 long, e)

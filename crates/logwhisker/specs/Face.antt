@@ -1,5 +1,6 @@
--- What the library's functions answer and leave, said by the very ends that the theorem of delivery is about: each line
--- is a field of `specified_host`, `specified_card`, `specified_store` or `specified_table`, on what the lent words hold.
+-- What the library's functions answer and leave, said by the very ends that the theorem of delivery is about: each
+-- line is a field of `specified_host`, `specified_card`, `specified_store` or `specified_table`, on what the lent
+-- words hold.
 use Rattle.std.specs.Prelude.{ℕ, ◌≡◌, ◌≢◌, List, []}
 use Rattle.host.specs.declared.Answer.{Answer}
 use Rattle.host.specs.declared.Opened.{Opened}

@@ -25,9 +25,9 @@ pub use table_receive::acknowledge::source_of;
 use table_register::adopt;
 use table_words::describe;
 
-// The promises say which table the words hold (table_of). Where a call takes effect, bits of the words that mean nothing
-// are left open; opening always takes effect. A refused call leaves every word as it was, and receiving leaves them
-// unless it accepts.
+// The promises say which table the words hold (table_of). Where a call takes effect, bits of the words that mean
+// nothing are left open; opening always takes effect. A refused call leaves every word as it was, and receiving leaves
+// them unless it accepts.
 
 // Opens a table; 13 where our ID is 0.
 pub fn open(words: &mut [u64; 1121], own: u16) -> u8

@@ -18,9 +18,9 @@ returns c =
       | then-kind-eq1 w ↦ inl (w.if-kind-eq1.true, ap pair_of w.words-is ∙ w.pack.ensures.0 e)
       | else-kind-eq1 w ↦ inr (w.if-kind-eq1.false, w.words-is)
     ] in
+    let stepped = c.receive_by_value-stepped.ensures in
     let whole = received-in-words a.words.now a.frame.now a.memory.now _ c.unpack.ensures
-    _ c.receive_by_value-stepped.ensures.value _ c.receive_by_value-stepped.ensures.memory_after _ c.kind_of-kind.ensures
-    _ packed _ c.put_answer.ensures in record {
+    _ stepped.value _ stepped.memory_after _ c.kind_of-kind.ensures _ packed _ c.put_answer.ensures in record {
       value = whole.0;
       words_after = whole.1.0;
       memory_after = whole.1.1.0;
