@@ -58,6 +58,12 @@ fn many_lines() -> Vec<u8> {
     b"\n".repeat(200_000)
 }
 
+/// What a replay says of a failure: the call, and the error with its number. The C
+/// program says its own name, and no number.
+fn failure(call: &str, what: &str, number: i32) -> String {
+    format!("{call}: {what} (os error {number})\n")
+}
+
 #[test]
 fn no_input() {
     for name in REPLAYS {
@@ -72,31 +78,33 @@ fn no_input() {
 
 #[test]
 fn input_that_cannot_be_read() {
-    // A replay says which call failed, the C program its own name.
-    for (name, who) in REPLAYS
-        .map(|name| (name, "read"))
-        .into_iter()
-        .chain([("calls", "calls")])
-    {
-        for (redirections, what) in [("<&-", "Bad file descriptor"), ("</", "Is a directory")] {
+    for (redirections, what, number) in [
+        ("<&-", "Bad file descriptor", 9),
+        ("</", "Is a directory", 21),
+    ] {
+        for name in REPLAYS {
             let output = run(name, redirections, b"");
-            assert_eq!(text(&output.stderr), format!("{who}: {what}\n"), "{name}");
+            let said = failure("read", what, number);
+            assert_eq!(text(&output.stderr), said, "{name}");
             assert_eq!(text(&output.stdout), "", "{name} {redirections}");
         }
+        let output = run("calls", redirections, b"");
+        assert_eq!(text(&output.stderr), format!("calls: {what}\n"));
+        assert_eq!(text(&output.stdout), "", "calls {redirections}");
     }
 }
 
 /// The failure is said once, and nothing more is written behind it.
 #[test]
 fn output_that_cannot_be_written() {
-    for (redirections, what) in [
-        (">/dev/full", "No space left on device"),
-        (">&-", "Bad file descriptor"),
+    for (redirections, what, number) in [
+        (">/dev/full", "No space left on device", 28),
+        (">&-", "Bad file descriptor", 9),
     ] {
         for input in [b"".to_vec(), b"00\n".to_vec(), many_lines()] {
             for name in REPLAYS {
                 let output = run(name, redirections, &input);
-                let said = format!("write: {what}\n");
+                let said = failure("write", what, number);
                 assert_eq!(text(&output.stderr), said, "{name}: {} bytes", input.len());
             }
         }
@@ -131,13 +139,14 @@ fn cut_off(name: &str) {
     let _ = writer.join().expect("the writer does not panic");
     let got = fs::read(&path).expect("the file is there");
     fs::remove_file(&path).expect("the file is there");
-    assert_eq!(text(&output.stderr), "write: File too large\n");
+    assert_eq!(text(&output.stderr), failure("write", "File too large", 27));
     assert_eq!(got.len(), 256 * 512);
     assert!(whole.as_bytes().starts_with(&got));
     assert!(!text(&got).contains('T'));
 }
 
-/// A reader that goes away ends the program, as it ends others.
+/// A reader that goes away ends the program: a replay by a write that fails, the C program
+/// by the signal, as it ends others.
 #[test]
 fn reader_that_goes_away() {
     for name in REPLAYS.into_iter().chain(["calls"]) {
@@ -154,7 +163,15 @@ fn reader_that_goes_away() {
             thread::sleep(Duration::from_millis(5));
         };
         let _ = writer.join().expect("the writer does not panic");
-        assert_eq!(status.signal(), Some(SIGPIPE), "{name}: {status}");
+        let mut said = String::new();
+        let mut stderr = child.stderr.take().expect("it is piped");
+        stderr.read_to_string(&mut said).expect("it can be read");
+        if name == "calls" {
+            assert_eq!(status.signal(), Some(SIGPIPE), "{name}: {status}");
+        } else {
+            assert!(status.success(), "{name}: {status}");
+            assert_eq!(said, failure("write", "Broken pipe", 32), "{name}");
+        }
     }
 }
 
@@ -257,7 +274,8 @@ fn input_that_fails_behind_answers() {
             .output()
             .expect("the program starts");
         assert_eq!(text(&output.stdout), "R 14\nR 14\n", "{name}");
-        assert_eq!(text(&output.stderr), "read: Input/output error\n", "{name}");
+        let said = failure("read", "Input/output error", 5);
+        assert_eq!(text(&output.stderr), said, "{name}");
     }
 }
 
