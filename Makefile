@@ -17,7 +17,7 @@ LIBRARY := target/staticlib/liblogwhisker.a
 REPLAY := $(if $(filter 1,$(PLAIN)),replay_plain,replay)
 PROGRAM = crates/$(1)/out/$(1)
 
-.PHONY: test check library replay calls demo bench bench-instructions soak install pictures plots clean
+.PHONY: test check library replay calls demo bench soak install pictures clean
 
 # The C programs are built as users build theirs: against an installed copy, here one below target/.
 INSTALLED := target/installed
@@ -64,24 +64,12 @@ $(DEMO_PROGRAMS): target/demo/%: c/demo/%.c c/demo/common.c c/demo/common.h $(IN
 	@mkdir -p $(@D)
 	$(C_BUILD) -o $@ $< c/demo/common.c $(C_LINK)
 
-# Times the proved ends and replay against plain Rust ones on this machine: docs/PERFORMANCE.md. It fails where the host
-# takes more than 1.5 times the plain host's time on frames of 1,500 bytes. BENCH='host, a' times only the lines whose
-# name has that; the replay's lines begin with 'replay'.
-BENCH ?=
-BENCH_BUILD = cd rust && cargo build --offline --locked --profile bench-release -p bench --features proved
-BENCH_PROGRAMS := target/rust/bench-release
-
+# Times the proved host and replay against plain Rust ones on this machine: docs/PERFORMANCE.md.
 bench:
-	@echo 'make bench: about 7 minutes for all lines, once the library and the replay are proved' >&2
 	$(MAKE) library $(call PROGRAM,replay)
-	$(BENCH_BUILD)
-	@$(BENCH_PROGRAMS)/bench-ends '$(BENCH)'; kept=$$?; \
-		$(BENCH_PROGRAMS)/bench-replay $(call PROGRAM,replay) '$(BENCH)' && exit $$kept
-
-# Counts the instructions of both hosts on each shape, by valgrind; BENCH=part as above.
-bench-instructions: $(LIBRARY)
-	$(BENCH_BUILD)
-	@rust/bench/instructions $(if $(BENCH),'$(BENCH)')
+	cd rust && cargo build --offline --locked --profile bench-release -p bench --features proved
+	target/rust/bench-release/bench-ends
+	target/rust/bench-release/bench-replay $(call PROGRAM,replay)
 
 # What takes too long for the gate: a file of 1 GB through the replay, and the comparisons with the independent
 # implementation ten times as long, from SEED=number on. It needs 1 GB of disk below target/.
@@ -118,11 +106,6 @@ $(LIBRARY): $(SOURCES)
 
 # Makes the pictures anew; the gate asks for it after a change of crates.txt.
 pictures:
-	python3 docs/pictures/make.py
-
-# Draws how costs grow from the times of the latest `make bench` or `make bench BENCH=growth`.
-plots:
-	python3 docs/pictures/plots.py target/bench/ends.tsv
 	python3 docs/pictures/make.py
 
 # Removes what was built, but not what is kept of the proofs, in crates/*/out: without that all is proved anew.

@@ -1,6 +1,6 @@
 #!/usr/bin/env python3
 """Makes the pictures of this folder: the frame format, the windows, the lives of frames and transactions, a frame's
-journey, a table of cards, the crates, and how costs grow (plots.py).
+journey, a table of cards, the crates.
 
 `make.py` writes them; `make.py --check` writes nothing and exits with 1 where a stored picture is not the one made
 here. Crates and floors are read from crates.txt; a name that begins with no word of its floor, and a crate that sees
@@ -10,9 +10,6 @@ import math
 import pathlib
 import re
 import sys
-
-sys.dont_write_bytecode = True
-import plots  # noqa: E402, nothing is left in this folder
 
 HERE = pathlib.Path(__file__).resolve().parent
 CRATES = HERE.parent.parent / "crates.txt"
@@ -826,8 +823,7 @@ def draw_stand(p, above, below, x, top, high):
 
 
 def pictures():
-    made = [draw_frame(), draw_windows(), draw_lives(), draw_journey(), draw_table(), draw_crates(*read_crates())]
-    return made + plots.pictures(Picture)
+    return [draw_frame(), draw_windows(), draw_lives(), draw_journey(), draw_table(), draw_crates(*read_crates())]
 
 
 def check(made):

@@ -6,7 +6,7 @@
 #![allow(improper_ctypes_definitions)]
 
 use crate::plain::card::Card;
-use crate::plain::host::{ACCEPTED, Answer, Host};
+use crate::plain::host::{Answer, Host};
 use crate::plain::ledger::Ledger;
 use crate::plain::table::Table;
 
@@ -79,12 +79,14 @@ pub trait CardEnd {
 
 #[inline(never)]
 extern "C" fn plain_receive(host: &mut Host, frame: &[u8], memory: &mut [u8], answer: &mut Answer) {
-    host.receive(frame, memory, answer);
+    *answer = host.receive(frame, memory);
 }
 
 #[inline(never)]
 extern "C" fn plain_reopen(host: &mut Host, own: u16, peer: u16) -> u32 {
-    host.reopen(own, peer).map_or(0, u32::from)
+    let (fresh, refusal) = Host::open(own, peer);
+    *host = fresh;
+    refusal.map_or(0, u32::from)
 }
 
 impl HostEnd for Host {
@@ -106,25 +108,34 @@ impl HostEnd for Host {
 
     #[inline(always)]
     fn bytes(answer: &Answer) -> u64 {
-        // 0 unless accepted.
-        answer.bytes.into()
+        match answer {
+            Answer::Accepted { bytes, .. } => u64::from(*bytes),
+            _ => 0,
+        }
     }
 
     fn words(answer: &Answer) -> [u64; 8] {
-        let (messages, place) = match answer.kind {
-            ACCEPTED => (answer.messages, 0),
-            _ => (0, answer.messages),
-        };
-        [
-            answer.kind.into(),
-            answer.number.into(),
-            messages.into(),
-            answer.bytes.into(),
-            answer.completed.into(),
-            answer.refusal.into(),
-            place.into(),
-            answer.run.into(),
-        ]
+        match *answer {
+            Answer::Accepted {
+                number,
+                messages,
+                bytes,
+                completed,
+                run,
+            } => [
+                1,
+                number.into(),
+                messages.into(),
+                bytes.into(),
+                completed.into(),
+                0,
+                0,
+                run.into(),
+            ],
+            Answer::Again { number, run } => [2, number.into(), 0, 0, 0, 0, 0, run.into()],
+            Answer::NoMessages => [3, 0, 0, 0, 0, 0, 0, 0],
+            Answer::Refused { number, place } => [4, 0, 0, 0, 0, number.into(), place.into(), 0],
+        }
     }
 }
 
@@ -157,7 +168,7 @@ extern "C" fn plain_table_receive(
         [_, _, low, high, ..] => u16::from_le_bytes([*low, *high]),
         _ => 0,
     };
-    table.receive(frame, memory, answer);
+    *answer = table.receive(frame, memory);
 }
 
 impl TableEnd for Table {

@@ -4,7 +4,7 @@
 //! before it is timed.
 
 use crate::ends::LedgerEnd;
-use crate::timing::Timed;
+use crate::tables::Timed;
 use reference::ledger::{READING, Reading, SUBSCRIBERS, block_of};
 use reference::rng::Rng;
 use std::hint::black_box;

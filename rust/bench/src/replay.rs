@@ -2,7 +2,7 @@
 //! table, and one buffer each for a line, its bytes and what is written. A test beside
 //! it compares its output with the reference's.
 
-use crate::plain::host::{ACCEPTED, AGAIN, Answer, Host, NO_MESSAGES};
+use crate::plain::host::{Answer, Host};
 use std::io::{self, BufRead, Write};
 
 /// Bytes of the replay's memory.
@@ -22,23 +22,15 @@ const DIGITS: [u8; 256] = {
     digits
 };
 
-/// Characters that are looked at before a bad one among them ends it.
-const PIECE: usize = 256;
-
 /// The bytes that a line spells; false where it spells none.
 fn decode(line: &[u8], bytes: &mut Vec<u8>) -> bool {
     bytes.clear();
     let mut bad = line.len() as u8 & 1;
-    for piece in line.chunks(PIECE) {
-        if bad != 0 {
-            break;
-        }
-        bytes.extend(piece.chunks_exact(2).map(|pair| {
-            let (high, low) = (DIGITS[usize::from(pair[0])], DIGITS[usize::from(pair[1])]);
-            bad |= (high | low) & 0xf0;
-            high << 4 | (low & 0x0f)
-        }));
-    }
+    bytes.extend(line.chunks_exact(2).map(|pair| {
+        let (high, low) = (DIGITS[usize::from(pair[0])], DIGITS[usize::from(pair[1])]);
+        bad |= (high | low) & 0xf0;
+        high << 4 | (low & 0x0f)
+    }));
     bad == 0
 }
 
@@ -48,7 +40,6 @@ pub fn run(mut input: impl BufRead, mut output: impl Write) -> io::Result<()> {
     let mut memory = [0; MEMORY];
     let mut totals = [0u64; 3];
     let (mut line, mut frame) = (Vec::new(), Vec::new());
-    let mut answer = Answer::default();
     for _ in 0..MOST_LINES {
         line.clear();
         if input.read_until(b'\n', &mut line)? == 0 {
@@ -61,32 +52,24 @@ pub fn run(mut input: impl BufRead, mut output: impl Write) -> io::Result<()> {
             output.write_all(b"R 14\n")?;
             continue;
         }
-        host.receive(&frame, &mut memory, &mut answer);
-        if answer.kind == ACCEPTED {
-            let more = [answer.messages, answer.bytes, answer.completed.into()];
-            for (total, more) in totals.iter_mut().zip(more) {
-                *total += u64::from(more);
+        match host.receive(&frame, &mut memory) {
+            Answer::Accepted {
+                number,
+                messages,
+                bytes,
+                completed,
+                ..
+            } => {
+                for (total, more) in totals.iter_mut().zip([messages, bytes, completed]) {
+                    *total += u64::from(more);
+                }
+                writeln!(output, "A {number} {messages} {bytes} {completed}")?;
             }
+            Answer::Again { number, .. } => writeln!(output, "G {number}")?,
+            Answer::NoMessages => output.write_all(b"N\n")?,
+            Answer::Refused { number, .. } => writeln!(output, "R {number}")?,
         }
-        write_answer(&mut output, &answer)?;
     }
     writeln!(output, "T {} {} {}", totals[0], totals[1], totals[2])?;
     output.flush()
-}
-
-fn write_answer(output: &mut impl Write, answer: &Answer) -> io::Result<()> {
-    let Answer {
-        refusal,
-        number,
-        messages,
-        bytes,
-        completed,
-        ..
-    } = answer;
-    match answer.kind {
-        ACCEPTED => writeln!(output, "A {number} {messages} {bytes} {completed}"),
-        AGAIN => writeln!(output, "G {number}"),
-        NO_MESSAGES => output.write_all(b"N\n"),
-        _ => writeln!(output, "R {refusal}"),
-    }
 }

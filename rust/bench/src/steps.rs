@@ -25,20 +25,10 @@ pub enum Steps {
     OutOfOrder,
     /// Frames that are held are shown again.
     ShowAgain,
-    /// 32 frames are always under way, so that 32 transactions have all their messages added
-    /// when the oldest frame is released, and another is built.
-    Rolling,
-    /// 32 transactions take turns with a message each, whose frame is released at once, so
-    /// that 32 still lack messages at each release.
-    TakingTurns,
 }
 
-/// Transactions that take turns, and the messages of each in a turn.
-const OPEN: u16 = 32;
-const MESSAGES_OF_OPEN: u16 = 128;
-
 /// What cards are timed on, by name.
-pub const STEPS: [(&str, Steps); 8] = [
+pub const STEPS: [(&str, Steps); 6] = [
     ("a message of 1,466 bytes, its life", Steps::Life(1_466)),
     ("a message of 4 bytes, its life", Steps::Life(4)),
     (
@@ -48,8 +38,6 @@ pub const STEPS: [(&str, Steps); 8] = [
     ("32 frames, acknowledged at once", Steps::InRuns),
     ("32 frames, acknowledged out of order", Steps::OutOfOrder),
     ("a held frame shown again", Steps::ShowAgain),
-    ("32 filled at each release", Steps::Rolling),
-    ("32 unfilled at each release", Steps::TakingTurns),
 ];
 
 /// Lets the card at 2 read an acknowledgement from its peer at 1.
@@ -64,8 +52,7 @@ impl Steps {
     /// How many times the steps are done in one turn, of a frame or of a showing each.
     pub fn times(self) -> usize {
         match self {
-            Steps::Life(_) | Steps::Rolling => 4_096,
-            Steps::TakingTurns => usize::from(OPEN * MESSAGES_OF_OPEN),
+            Steps::Life(_) => 4_096,
             Steps::ManyMessages(_) => 512,
             Steps::InRuns | Steps::OutOfOrder => 64 * usize::from(UNDER_WAY),
             Steps::ShowAgain => 512 * usize::from(UNDER_WAY),
@@ -112,8 +99,6 @@ impl Steps {
                     show(card, slots, index as u16 % UNDER_WAY, see);
                 }
             }
-            Steps::Rolling => roll(card, slots, self.times(), &data[..4], see),
-            Steps::TakingTurns => take_turns(card, slots, &data[..4], see),
         }
     }
 }
@@ -190,40 +175,5 @@ fn under_way<C: CardEnd>(
         // 13 and 32 have no factor in common, so each comes once.
         let number = first.wrapping_add((13 * index + 7) % UNDER_WAY);
         acknowledge(card, number, 1, see);
-    }
-}
-
-fn roll<C: CardEnd>(
-    card: &mut C,
-    slots: &mut [u8],
-    times: usize,
-    data: &[u8],
-    see: &mut impl FnMut(u64),
-) {
-    let mut oldest = 0;
-    for index in 0..times {
-        if index >= usize::from(UNDER_WAY) {
-            acknowledge(card, oldest, 1, see);
-        }
-        let number = one_frame(card, slots, 1, data, see);
-        oldest = number.wrapping_sub(UNDER_WAY - 1);
-    }
-    acknowledge(card, oldest, UNDER_WAY as u8, see);
-}
-
-fn take_turns<C: CardEnd>(card: &mut C, slots: &mut [u8], data: &[u8], see: &mut impl FnMut(u64)) {
-    let mut open = [0; OPEN as usize];
-    for number in &mut open {
-        let count = black_box(MESSAGES_OF_OPEN);
-        see(card.open_transaction(count, 64, 7, number).into());
-    }
-    for _ in 0..MESSAGES_OF_OPEN {
-        for transaction in open {
-            let mut number = 0;
-            let address = black_box(64);
-            see(card.add(slots, transaction, address, data).into());
-            see(card.seal(slots, &mut number).into());
-            acknowledge(card, number, 1, see);
-        }
     }
 }

@@ -1,12 +1,25 @@
-//! What tables of cards are timed on: prepared frames of one card or of several in turn, and
-//! as many hosts on the same frames, each chosen by its caller; and a card that registers and
-//! is removed beside fifteen others. What a turn begins with is made before it is timed.
+//! What tables of sixteen cards are timed on: prepared frames of one card or of all in
+//! turn, and sixteen hosts on the same frames, each chosen by its caller; and a card that
+//! registers and is removed beside fifteen others. What a turn begins with is made before it
+//! is timed.
 
 use crate::ends::{HostEnd, TableEnd};
-use crate::limit::Memory;
 use crate::shapes::{CARDS, Cards, FIRST_SOURCE, MEMORY, REGION};
-use crate::timing::Timed;
 use std::hint::black_box;
+
+/// Something to be timed.
+pub trait Timed {
+    /// Makes what the next turn begins with, which is not timed.
+    fn ready(&mut self) {}
+    /// A turn, which gives a sum of what it got.
+    fn turn(&mut self) -> u64;
+}
+
+impl<F: FnMut() -> u64> Timed for F {
+    fn turn(&mut self) -> u64 {
+        self()
+    }
+}
 
 /// Frames, all equally long, for so many fresh tables one after another.
 #[derive(Clone, Copy)]
@@ -25,10 +38,10 @@ fn source_at(place: usize) -> u16 {
     FIRST_SOURCE + place as u16
 }
 
-/// A table with the cards that are registered.
-pub fn table_of<T: TableEnd>(cards: Cards) -> T {
+/// A table with all sixteen cards.
+fn registered<T: TableEnd>() -> T {
     let mut table = T::fresh();
-    for place in 0..cards.registered() {
+    for place in 0..CARDS {
         let refusal = table.register(source_at(place), place * REGION, REGION, MEMORY);
         assert_eq!(refusal, 0, "place {place}");
     }
@@ -39,16 +52,16 @@ pub fn table_of<T: TableEnd>(cards: Cards) -> T {
 pub struct TableRun<'a, T> {
     given: Given<'a>,
     tables: Vec<T>,
-    memory: Memory,
+    memory: Vec<u8>,
 }
 
 impl<'a, T: TableEnd> TableRun<'a, T> {
     /// To be made ready.
-    pub fn new(given: Given<'a>, memory: &Memory) -> TableRun<'a, T> {
+    pub fn new(given: Given<'a>) -> TableRun<'a, T> {
         TableRun {
             given,
             tables: Vec::new(),
-            memory: memory.clone(),
+            memory: vec![0; MEMORY],
         }
     }
 }
@@ -56,14 +69,13 @@ impl<'a, T: TableEnd> TableRun<'a, T> {
 impl<T: TableEnd> Timed for TableRun<'_, T> {
     fn ready(&mut self) {
         self.tables.clear();
-        let tables = (0..self.given.passes).map(|_| table_of(self.given.cards));
+        let tables = (0..self.given.passes).map(|_| registered());
         self.tables.extend(tables);
     }
 
     fn turn(&mut self) -> u64 {
         let Given { frames, size, .. } = self.given;
-        let mut memory = self.memory.borrow_mut();
-        let memory = black_box(&mut memory[..]);
+        let memory = black_box(&mut self.memory[..]);
         let mut answer = <T::Host as HostEnd>::Answer::default();
         let (mut source, mut total) = (0, 0);
         for table in &mut self.tables {
@@ -81,16 +93,16 @@ impl<T: TableEnd> Timed for TableRun<'_, T> {
 pub struct HostRun<'a, H> {
     given: Given<'a>,
     hosts: Vec<[H; CARDS]>,
-    memory: Memory,
+    memory: Vec<u8>,
 }
 
 impl<'a, H: HostEnd> HostRun<'a, H> {
     /// To be made ready.
-    pub fn new(given: Given<'a>, memory: &Memory) -> HostRun<'a, H> {
+    pub fn new(given: Given<'a>) -> HostRun<'a, H> {
         HostRun {
             given,
             hosts: Vec::new(),
-            memory: memory.clone(),
+            memory: vec![0; MEMORY],
         }
     }
 }
@@ -114,8 +126,7 @@ impl<H: HostEnd> Timed for HostRun<'_, H> {
             ..
         } = self.given;
         let places = black_box(cards.places());
-        let mut memory = self.memory.borrow_mut();
-        let memory = black_box(&mut memory[..]);
+        let memory = black_box(&mut self.memory[..]);
         let mut answer = H::Answer::default();
         let mut total = 0;
         for hosts in &mut self.hosts {
@@ -137,7 +148,7 @@ impl<H: HostEnd> Timed for HostRun<'_, H> {
 /// Holds two tables, and the hosts of the second kind in the places of its cards, to the
 /// same answers and memory on every frame.
 pub fn compare<A: TableEnd, B: TableEnd>(given: Given) {
-    let (mut one, mut other): (A, B) = (table_of(given.cards), table_of(given.cards));
+    let (mut one, mut other): (A, B) = (registered(), registered());
     let mut hosts = hosts::<B::Host>();
     let mut memories = [vec![0; MEMORY], vec![0; MEMORY], vec![0; MEMORY]];
     let mut first = <A::Host as HostEnd>::Answer::default();
@@ -171,7 +182,7 @@ pub struct ChangeRun<T> {
 impl<T: TableEnd> ChangeRun<T> {
     /// With fifteen other cards.
     pub fn new() -> ChangeRun<T> {
-        let mut table: T = table_of(Cards::First(CARDS));
+        let mut table: T = registered();
         assert_eq!(table.remove(source_at(CARDS - 1)), 0);
         ChangeRun { table }
     }

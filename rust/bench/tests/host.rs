@@ -1,9 +1,8 @@
 //! Compares the plain fast host with the reference, answer by answer and byte by byte,
 //! on generated traffic from a fresh start and from near the ends of the numbers.
 
-use bench::growth;
-use bench::plain::host::{self as plain, ACCEPTED, AGAIN, Answer, NO_MESSAGES};
-use bench::shapes::{MEMORY, Order, SHAPES, USUAL_FRAME};
+use bench::plain::host::{self as plain, Answer};
+use bench::shapes::{MEMORY, SHAPES};
 use reference::host::{self, Host};
 use reference::replay;
 use reference::traffic::{Kind, Traffic};
@@ -19,26 +18,19 @@ fn converted(answer: host::Answer) -> Answer {
             bytes,
             completed,
             run,
-        } => Answer {
-            kind: ACCEPTED,
-            refusal: 0,
+        } => Answer::Accepted {
             number,
             messages: messages as u32,
             bytes: bytes as u32,
-            completed: completed as u16,
-            run: run.into(),
+            completed: completed as u32,
+            run,
         },
-        host::Answer::Again { number, run } => Answer {
-            kind: AGAIN,
+        host::Answer::Again { number, run } => Answer::Again { number, run },
+        host::Answer::NoMessages => Answer::NoMessages,
+        host::Answer::Refused { number, place } => Answer::Refused {
             number,
-            run: run.into(),
-            ..Answer::default()
+            place: place as u32,
         },
-        host::Answer::NoMessages => Answer {
-            kind: NO_MESSAGES,
-            ..Answer::default()
-        },
-        host::Answer::Refused { number, place } => Answer::refused(number, place as u32),
     }
 }
 
@@ -48,24 +40,24 @@ fn compare(mut traffic: Traffic, next: u16, lowest: u32, lines: usize) {
     let mut expected = vec![0; replay::MEMORY];
     let mut memory = expected.clone();
     let mut met = [0; 13];
-    let mut got = Answer::default();
     for index in 0..lines {
         let line = traffic.next_line();
         let Some(frame) = replay::bytes_of(line.text) else {
             continue;
         };
         let answer = reference.receive(&frame, &mut expected);
-        plain.receive(&frame, &mut memory, &mut got);
+        let got = plain.receive(&frame, &mut memory);
         assert_eq!(got, converted(answer), "line {index}, '{}'", line.family);
         assert!(memory == expected, "line {index}, '{}'", line.family);
         let number = index as u16;
-        let mut frame = [0; 10];
-        let due = plain.acknowledge(&got, number, &mut frame);
         assert_eq!(
-            due.then_some(frame),
+            plain.acknowledgement(got, number),
             reference.acknowledgement(answer, number)
         );
-        met[usize::from(got.refusal)] += 1;
+        match got {
+            Answer::Refused { number, .. } => met[usize::from(number)] += 1,
+            _ => met[0] += 1,
+        }
     }
     assert!(met.iter().all(|met| *met >= lines / 5_000), "{met:?}");
 }
@@ -104,53 +96,39 @@ fn opening_agrees() {
             frame[..4].copy_from_slice(&ids);
             frame[9] = 1;
             let mut memory = [[1; 8]; 2];
-            let mut got = Answer::default();
-            host.receive(&frame, &mut memory[0], &mut got);
-            let expected = expected.receive(&frame, &mut memory[1]);
-            assert_eq!(got, converted(expected));
+            assert_eq!(
+                host.receive(&frame, &mut memory[0]),
+                converted(expected.receive(&frame, &mut memory[1]))
+            );
             assert_eq!(memory[0], memory[1]);
         }
     }
 }
 
-/// Every benchmark frame is answered alike, and all new ones are accepted but those that are
-/// to be refused.
+/// Every benchmark frame is answered alike, and all new ones are accepted.
 #[test]
 fn benchmark_frames_are_accepted() {
-    const ARRIVALS: usize = 70_080;
-    let growths = growth::of_hosts()
-        .into_iter()
-        .flat_map(|(_, points)| points);
-    let growths = growths.map(|(_, shape)| shape);
-    for shape in SHAPES.into_iter().chain(growths) {
-        let arrivals = match shape.name {
-            // How costs grow is timed on few frames, and from the cache.
-            "" => 480,
-            _ => ARRIVALS * USUAL_FRAME / shape.size().max(USUAL_FRAME),
-        };
-        let arrivals = shape.whole(arrivals);
-        let frames = shape.frames(arrivals, MEMORY);
+    const ARRIVALS: usize = 70_016;
+    for shape in SHAPES {
+        let frames = shape.frames(ARRIVALS, MEMORY);
         let mut reference = Host::open(1, 2).0;
         let mut plain = plain::Host::open(1, 2).0;
         let mut memories = [vec![0; MEMORY], vec![0; MEMORY]];
-        let mut answer = Answer::default();
         let mut total = 0;
         for (index, frame) in frames.chunks(shape.size()).enumerate() {
-            plain.receive(frame, &mut memories[0], &mut answer);
-            total += u64::from(answer.bytes);
+            let answer = plain.receive(frame, &mut memories[0]);
+            if let Answer::Accepted { bytes, .. } = answer {
+                total += u64::from(bytes);
+            }
             // The reference copies its memory for every frame.
             if index < 2_000 {
                 let expected = reference.receive(frame, &mut memories[1]);
                 assert_eq!(answer, converted(expected), "{}", shape.name);
             }
-            if shape.order == Order::Refused {
-                let last = shape.messages as u32 - 1;
-                assert_eq!(answer, Answer::refused(11, last), "{}", shape.name);
-            }
-            if index + 1 == arrivals.min(2_000) {
+            if index == 1_999 {
                 assert!(memories[0] == memories[1], "{}", shape.name);
             }
         }
-        assert_eq!(total, shape.accepted_bytes(arrivals), "{}", shape.name);
+        assert_eq!(total, shape.accepted_bytes(ARRIVALS), "{}", shape.name);
     }
 }

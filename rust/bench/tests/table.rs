@@ -2,17 +2,14 @@
 //! registerings, removals and frames of up to sixteen cards, good and bad, and memories
 //! that end too soon.
 
-use bench::plain::host::{ACCEPTED, AGAIN, Answer, NO_MESSAGES};
+use bench::plain::host::Answer;
 use bench::plain::table as plain;
-use bench::shapes::{AT_TABLES, CARDS, Cards, MEMORY, Order, SHAPES};
-use bench::tables::{ChangeRun, Given, HostRun, OpenRun, TableRun, compare};
-use bench::timing::Timed;
+use bench::shapes::{CARDS, Cards, Order, SHAPES};
+use bench::tables::{ChangeRun, Given, HostRun, OpenRun, TableRun, Timed, compare};
 use reference::aimed;
 use reference::host::{self, Host};
 use reference::rng::Rng;
 use reference::table::{Region, Table, source_of};
-use std::cell::RefCell;
-use std::rc::Rc;
 
 /// The reference's answer in the plain table's form.
 fn converted(answer: host::Answer) -> Answer {
@@ -23,26 +20,19 @@ fn converted(answer: host::Answer) -> Answer {
             bytes,
             completed,
             run,
-        } => Answer {
-            kind: ACCEPTED,
-            refusal: 0,
+        } => Answer::Accepted {
             number,
             messages: messages as u32,
             bytes: bytes as u32,
-            completed: completed as u16,
-            run: run.into(),
+            completed: completed as u32,
+            run,
         },
-        host::Answer::Again { number, run } => Answer {
-            kind: AGAIN,
+        host::Answer::Again { number, run } => Answer::Again { number, run },
+        host::Answer::NoMessages => Answer::NoMessages,
+        host::Answer::Refused { number, place } => Answer::Refused {
             number,
-            run: run.into(),
-            ..Answer::default()
+            place: place as u32,
         },
-        host::Answer::NoMessages => Answer {
-            kind: NO_MESSAGES,
-            ..Answer::default()
-        },
-        host::Answer::Refused { number, place } => Answer::refused(number, place as u32),
     }
 }
 
@@ -95,17 +85,19 @@ impl Both {
 
     fn receive(&mut self, frame: &[u8], lent: usize) {
         let expected = self.reference.receive(frame, &mut self.expected[..lent]);
-        let mut got = Answer::default();
-        self.plain
-            .receive(frame, &mut self.memory[..lent], &mut got);
+        let got = self.plain.receive(frame, &mut self.memory[..lent]);
         assert_eq!(got, converted(expected), "{frame:?} with {lent} bytes");
         assert_eq!(self.memory, self.expected, "{frame:?} with {lent} bytes");
         let (source, next) = (source_of(frame).unwrap_or(0), self.rng.next_u16());
         assert_eq!(
-            self.plain.acknowledgement(&got, source, next),
+            self.plain.acknowledgement(got, source, next),
             self.reference.acknowledgement(expected, source, next)
         );
-        self.met_at_receiving[usize::from(got.refusal)] += 1;
+        let number = match got {
+            Answer::Refused { number, .. } => number,
+            _ => 0,
+        };
+        self.met_at_receiving[usize::from(number)] += 1;
     }
 
     fn any_source(&mut self) -> u16 {
@@ -227,17 +219,16 @@ fn sixteen_cards_go_on_past_the_end_of_the_frame_numbers() {
         let registered = table.register(*source, first, REGION as u64, length);
         assert_eq!(registered, Ok(()));
     }
-    let mut shapes = SHAPES.iter();
-    let shape = shapes.find(|shape| shape.order == Order::Reordered(32));
+    let shape = SHAPES.iter().find(|shape| shape.order == Order::Reordered);
     let shape = shape.expect("one is out of order");
     let mut frames = shape.frames(ARRIVALS, REGION);
-    let mut answer = Answer::default();
     let mut total = 0;
     for frame in frames.chunks_mut(shape.size()) {
         for source in &sources {
             frame[2..4].copy_from_slice(&source.to_le_bytes());
-            table.receive(frame, &mut memory, &mut answer);
-            total += u64::from(answer.bytes);
+            if let Answer::Accepted { bytes, .. } = table.receive(frame, &mut memory) {
+                total += u64::from(bytes);
+            }
         }
     }
     assert_eq!(total, 16 * shape.accepted_bytes(ARRIVALS));
@@ -252,14 +243,8 @@ fn sixteen_cards_go_on_past_the_end_of_the_frame_numbers() {
 fn timed_frames_are_accepted() {
     use bench::plain::host::Host as PlainHost;
     let arrivals = 32 * CARDS;
-    let memory = Rc::new(RefCell::new(vec![0; MEMORY]));
-    for shape in SHAPES.into_iter().take(AT_TABLES) {
-        for cards in [
-            Cards::At(0),
-            Cards::At(CARDS - 1),
-            Cards::First(CARDS),
-            Cards::First(2),
-        ] {
+    for shape in SHAPES {
+        for cards in [Cards::At(0), Cards::At(CARDS - 1), Cards::InTurn] {
             let frames = shape.frames_of(cards, arrivals);
             let given = Given {
                 frames: &frames,
@@ -268,8 +253,8 @@ fn timed_frames_are_accepted() {
                 passes: 2,
             };
             compare::<plain::Table, plain::Table>(given);
-            let mut table = TableRun::<plain::Table>::new(given, &memory);
-            let mut hosts = HostRun::<PlainHost>::new(given, &memory);
+            let mut table = TableRun::<plain::Table>::new(given);
+            let mut hosts = HostRun::<PlainHost>::new(given);
             for _ in 0..2 {
                 let expected = 2 * shape.accepted_bytes(arrivals);
                 for timed in [&mut table as &mut dyn Timed, &mut hosts] {

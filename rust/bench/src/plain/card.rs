@@ -1,10 +1,8 @@
 //! A card as one writes it for speed: state in place, marks in single words, messages put
-//! straight into their slot, short copies and gaps without a call. It gives the same answers
-//! as the reference for every run from a fresh start, which a test beside it compares. A call
-//! gives 0 or the refusal's number.
+//! straight into their slot. It gives the same answers as the reference for every run from
+//! a fresh start, which a test beside it compares. A call gives 0 or the refusal's number.
 
-use super::copy::copy;
-use super::walk::{FRAME_HEADER, LONGEST_FRAME, MESSAGE_HEADER, is_whole, next_header};
+use super::host::{FRAME_HEADER, LONGEST_FRAME, MESSAGE_HEADER, copy, is_whole, next_header};
 
 const LEAST_LIMIT: usize = FRAME_HEADER + MESSAGE_HEADER;
 const SLOTS: usize = 64;
@@ -158,8 +156,10 @@ impl Card {
             slot[8..10].copy_from_slice(&[0, 1]);
         } else {
             slot[self.last + 23] = 1;
-            // At most 7 bytes, and the header comes over what is too much.
-            slot[self.used..][..8].fill(0);
+            // Mostly there is no gap, and no call then.
+            if self.used < start {
+                slot[self.used..start].fill(0);
+            }
         }
         put_header(
             &mut slot[start..data_start],

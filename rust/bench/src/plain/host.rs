@@ -1,352 +1,368 @@
-//! A host as one writes it for speed, without unsafe code: state in place, marks in single
-//! words, a bit for each open transaction, so that single messages never touch the table, and
-//! frames of one message in one walk. Tests hold its answers and memory to the reference's.
+//! A host as one writes it for speed: state in place, marks in single words, one walk
+//! that reads and judges, one that writes, and nothing allocated for a frame. It gives
+//! the same answers as the reference, which a test beside it compares.
 
-use super::copy::copy;
-use super::walk::{FRAME_HEADER, Header, LONGEST_FRAME, MESSAGE_HEADER, MOST_MESSAGES, is_whole};
-
+pub(super) const FRAME_HEADER: usize = 10;
+pub(super) const MESSAGE_HEADER: usize = 24;
+pub(super) const LONGEST_FRAME: usize = 9_000;
+/// Messages of no bytes that fit in the longest frame.
+const MOST_MESSAGES: usize = (LONGEST_FRAME - FRAME_HEADER) / MESSAGE_HEADER;
 const FRAME_WINDOW: u16 = 64;
 const FRAME_BEHIND: u16 = 32_768;
+const TRANSACTION_WINDOW: u32 = 32;
 const LONGEST_RUN: u16 = 255;
 
-/// Kinds of an answer.
-pub const ACCEPTED: u8 = 1;
-/// See [`ACCEPTED`].
-pub const AGAIN: u8 = 2;
-/// See [`ACCEPTED`].
-pub const NO_MESSAGES: u8 = 3;
-/// See [`ACCEPTED`].
-pub const REFUSED: u8 = 4;
-
-/// What a frame is answered, written where the caller wants it. What a kind does not have is
-/// 0.
+/// What a frame is answered.
 #[derive(Clone, Copy, Debug, Default, PartialEq, Eq)]
-pub struct Answer {
-    /// One of the four above.
-    pub kind: u8,
-    /// The refusal's number.
-    pub refusal: u8,
-    /// Frame number.
-    pub number: u16,
-    /// Messages of an accepted frame, or the refused one's place.
-    pub messages: u32,
-    /// Data bytes.
-    pub bytes: u32,
-    /// Transactions that became complete.
-    pub completed: u16,
-    /// How many numbers from this one on are acknowledged.
-    pub run: u16,
+pub enum Answer {
+    /// All its messages took effect.
+    Accepted {
+        /// Frame number.
+        number: u16,
+        /// Messages.
+        messages: u32,
+        /// Data bytes.
+        bytes: u32,
+        /// Transactions that became complete.
+        completed: u32,
+        /// How many numbers from this one on are acknowledged.
+        run: u8,
+    },
+    /// The number is behind or was accepted before.
+    Again {
+        /// Frame number.
+        number: u16,
+        /// As above.
+        run: u8,
+    },
+    /// The flag is clear.
+    #[default]
+    NoMessages,
+    /// Nothing changed.
+    Refused {
+        /// The refusal's number.
+        number: u8,
+        /// The message's index for 7 to 12, otherwise 0.
+        place: u32,
+    },
 }
 
-impl Answer {
-    /// Refused, at this place.
-    #[inline(always)]
-    pub fn refused(refusal: u8, place: u32) -> Answer {
-        Answer {
-            kind: REFUSED,
-            refusal,
-            messages: place,
-            ..Answer::default()
-        }
-    }
-}
-
-/// What the messages of a transaction agree on, as it stands in their headers.
-#[derive(Clone, Copy, Default, PartialEq, Eq)]
-pub(super) struct Terms {
-    /// Completion value, and above it the count.
-    pub(super) value_and_count: u64,
-    /// Completion address.
-    pub(super) address: u32,
-}
-
-/// A transaction's terms, and how many of its messages came.
+/// An open transaction, or `received` 0 for none.
 #[derive(Clone, Copy, Default)]
-pub(super) struct Entry {
-    pub(super) terms: Terms,
-    pub(super) received: u32,
+struct Entry {
+    address: u32,
+    value: u32,
+    count: u16,
+    received: u16,
+}
+
+/// The fields of a message header.
+struct Header {
+    transaction: u32,
+    address: u32,
+    value: u32,
+    count: u16,
+    data_address: u32,
+    length: usize,
+    trailing: u8,
+}
+
+impl Header {
+    #[inline(always)]
+    fn read(frame: &[u8], at: usize) -> Option<Header> {
+        let bytes: &[u8; MESSAGE_HEADER] = frame.get(at..)?.first_chunk()?;
+        let word = |at: usize| u64::from_le_bytes(bytes[at..at + 8].try_into().unwrap());
+        let (first, second, third) = (word(0), word(8), word(16));
+        Some(Header {
+            transaction: first as u32,
+            address: (first >> 32) as u32,
+            value: second as u32,
+            count: (second >> 32) as u16,
+            data_address: third as u32,
+            length: usize::from((third >> 32) as u16),
+            trailing: (third >> 56) as u8,
+        })
+    }
 }
 
 /// The host's end of a pair.
 pub struct Host {
     /// The first four bytes of a frame for this end, from its peer.
-    pub(super) ids: u32,
-    pub(super) next: u16,
+    ids: u32,
+    next: u16,
     /// Bit i is set if `next + i` was accepted.
-    pub(super) marks: u64,
-    pub(super) lowest: u32,
+    marks: u64,
+    lowest: u32,
     /// Bit i is set if `lowest + i` is complete.
-    pub(super) closed: u32,
-    /// Bit i is set if a transaction with that number modulo 32 is open. Its entry counts
-    /// only then.
-    pub(super) open: u32,
-    /// Bit i is set if the frame has changed entry i, which is saved.
-    pub(super) changed: u32,
-    pub(super) table: [Entry; 32],
-    pub(super) saved: [Entry; 32],
-    /// Where the frame's messages start.
-    pub(super) places: [u16; MOST_MESSAGES],
+    closed: u32,
+    /// Open transactions at their number modulo 32.
+    open: [Entry; 32],
+    /// What stood in `open` before the frame, where the frame changed it.
+    saved: [Entry; 32],
+    /// Where the frame's messages start, with the top bit set for a completing one.
+    places: [u16; MOST_MESSAGES],
 }
 
-/// Moves the window of transactions after one more is complete.
-#[inline(always)]
-pub(super) fn close(lowest: &mut u32, closed: &mut u32, step: u32) {
-    if step == 0 && *closed == 0 {
-        *lowest = lowest.wrapping_add(1);
-        return;
-    }
-    let marks = *closed | 1 << step;
-    let run = marks.trailing_ones();
-    *closed = marks.checked_shr(run).unwrap_or(0);
-    *lowest = lowest.wrapping_add(run);
-}
+const COMPLETING: u16 = 0x8000;
 
 impl Host {
     /// A fresh end, and refusal 13 if an ID is 0; it then has both IDs 0.
     pub fn open(own: u16, peer: u16) -> (Host, Option<u8>) {
-        let mut host = Host::starting_at(0, 0, 0, 0);
-        let refusal = host.reopen(own, peer);
-        (host, refusal)
-    }
-
-    /// The same in place of an end that was there.
-    pub fn reopen(&mut self, own: u16, peer: u16) -> Option<u8> {
         if own == 0 || peer == 0 {
-            self.restart(0, 0, 0, 0);
-            Some(13)
+            (Host::starting_at(0, 0, 0, 0), Some(13))
         } else {
-            self.restart(own, peer, 0, 0);
-            None
+            (Host::starting_at(own, peer, 0, 0), None)
         }
     }
 
     /// An end with these numbers to come next, nothing received ahead and none open.
     pub fn starting_at(own: u16, peer: u16, next: u16, lowest: u32) -> Host {
-        let mut host = Host {
-            ids: 0,
-            next: 0,
+        Host {
+            ids: u32::from(own) | u32::from(peer) << 16,
+            next,
             marks: 0,
-            lowest: 0,
+            lowest,
             closed: 0,
-            open: 0,
-            changed: 0,
-            table: [Entry::default(); 32],
+            open: [Entry::default(); 32],
             saved: [Entry::default(); 32],
             places: [0; MOST_MESSAGES],
-        };
-        host.restart(own, peer, next, lowest);
-        host
-    }
-
-    /// Entries, and what a frame leaves besides, need not be cleared.
-    #[inline(always)]
-    fn restart(&mut self, own: u16, peer: u16, next: u16, lowest: u32) {
-        self.ids = u32::from(own) | u32::from(peer) << 16;
-        self.next = next;
-        self.marks = 0;
-        self.lowest = lowest;
-        self.closed = 0;
-        self.open = 0;
+        }
     }
 
     /// Answers any bytes at all.
-    #[inline(always)]
-    pub fn receive(&mut self, frame: &[u8], memory: &mut [u8], answer: &mut Answer) {
+    pub fn receive(&mut self, frame: &[u8], memory: &mut [u8]) -> Answer {
         let Some(header) = frame.first_chunk::<FRAME_HEADER>() else {
-            *answer = Answer::refused(1, 0);
-            return;
+            return refused(1);
         };
         if frame.len() > LONGEST_FRAME {
-            *answer = Answer::refused(2, 0);
-            return;
+            return refused(2);
         }
-        let word = u64::from_le_bytes(header[..8].try_into().unwrap());
-        if word as u32 != self.ids {
-            *answer = Answer::refused(3, 0);
-            return;
+        let &[a, b, c, d, low, high, _, _, _, flags] = header;
+        if u32::from_le_bytes([a, b, c, d]) != self.ids {
+            return refused(3);
         }
-        let flags = header[9];
-        if flags != 1 {
-            *answer = without_messages(flags);
-            return;
+        if flags > 1 {
+            return refused(4);
         }
-        let number = (word >> 32) as u16;
+        if flags == 0 {
+            return Answer::NoMessages;
+        }
+        let number = u16::from_le_bytes([low, high]);
         let distance = number.wrapping_sub(self.next);
         if distance >= FRAME_WINDOW || self.marks >> distance & 1 == 1 {
-            *answer = self.by_number(frame, number, distance);
-            return;
+            return if !is_whole(frame, FRAME_HEADER) {
+                refused(5)
+            } else if (FRAME_WINDOW..FRAME_BEHIND).contains(&distance) {
+                refused(6)
+            } else {
+                let run = self.run_again(distance);
+                Answer::Again { number, run }
+            };
         }
-        let Some(header) = Header::read(frame, FRAME_HEADER) else {
-            *answer = Answer::refused(5, 0);
-            return;
-        };
-        if header.is_last() {
-            self.take_one(frame, memory, header, answer);
-        } else {
-            self.take_many(frame, memory, answer);
-        }
+        self.judge(frame, memory, number)
     }
 
-    /// The answer where the number alone decides.
-    #[inline(never)]
-    fn by_number(&self, frame: &[u8], number: u16, distance: u16) -> Answer {
-        if !is_whole(frame, FRAME_HEADER) {
-            return Answer::refused(5, 0);
-        }
-        if (FRAME_WINDOW..FRAME_BEHIND).contains(&distance) {
-            return Answer::refused(6, 0);
-        }
-        // The next one's mark is never set, so that a run from behind ends there.
-        let run = if distance < FRAME_WINDOW {
-            (self.marks >> distance).trailing_ones() as u16
-        } else {
-            distance.wrapping_neg().min(LONGEST_RUN)
-        };
-        Answer {
-            kind: AGAIN,
-            number,
-            run,
-            ..Answer::default()
-        }
-    }
-
-    /// A frame of one message: no second walk, and nothing to be undone.
     #[inline(always)]
-    fn take_one(&mut self, frame: &[u8], memory: &mut [u8], header: Header, answer: &mut Answer) {
-        let start = FRAME_HEADER + MESSAGE_HEADER;
-        let length = header.length();
-        let Some(data) = frame.get(start..start + length) else {
-            *answer = Answer::refused(5, 0);
-            return;
-        };
-        let step = header.transaction().wrapping_sub(self.lowest);
-        let (to, at) = (header.data_address(), header.address());
-        let outside = to + length > memory.len() || at + 4 > memory.len();
-        if step >= 32 || self.closed >> step & 1 == 1 || outside {
-            *answer = self.refuse_one(header, memory.len());
-            return;
-        }
-        let Some(complete) = self.count_one(header) else {
-            *answer = self.refuse_one(header, memory.len());
-            return;
-        };
-        copy(&mut memory[to..to + length], data);
-        if complete {
-            memory[at..at + 4].copy_from_slice(&header.value());
-            close(&mut self.lowest, &mut self.closed, step);
-        }
-        self.accept(frame, 1, length as u32, u16::from(complete), answer);
-    }
-
-    /// Counts in the one message of a frame; nothing where it is refused, otherwise whether
-    /// its transaction is complete.
-    #[inline(always)]
-    fn count_one(&mut self, header: Header) -> Option<bool> {
-        let slot = header.transaction() % 32;
-        let is_open = self.open >> slot & 1 == 1;
-        let count = header.count();
-        if count <= 1 {
-            // A transaction that is open has a count of 2 or more.
-            let bare = count == 1 || header.length() == 0;
-            return (bare && !is_open).then_some(true);
-        }
-        let entry = &mut self.table[slot as usize];
-        let terms = header.terms();
-        let mut received = 1;
-        if is_open {
-            if entry.terms != terms {
-                return None;
+    fn judge(&mut self, frame: &[u8], memory: &mut [u8], number: u16) -> Answer {
+        // Held in registers, and not put back if a message is refused.
+        let (mut lowest, mut closed) = (self.lowest, self.closed);
+        let size = memory.len() as u64;
+        let mut changed = 0u32;
+        let mut at = FRAME_HEADER;
+        let mut messages = 0;
+        let mut bytes = 0;
+        let mut completed = 0;
+        let refusal = loop {
+            let Some(header) = Header::read(frame, at) else {
+                break 5;
+            };
+            let end = at + MESSAGE_HEADER + header.length;
+            if end > frame.len() {
+                break 5;
             }
-            received = entry.received + 1;
-            entry.received = received;
-        } else {
-            *entry = Entry { terms, received };
-        }
-        let complete = received == u32::from(count);
-        self.open = self.open & !(1 << slot) | u32::from(!complete) << slot;
-        Some(complete)
-    }
+            let step = header.transaction.wrapping_sub(lowest);
+            if step >= TRANSACTION_WINDOW {
+                break 7;
+            }
+            if closed >> step & 1 == 1 {
+                break 8;
+            }
+            let slot = header.transaction as usize % 32;
+            let entry = &mut self.open[slot];
+            let received = entry.received + 1;
+            let same = entry.address == header.address
+                && entry.value == header.value
+                && entry.count == header.count;
+            if received > 1 && !same {
+                break 9;
+            }
+            if header.count == 0 && header.length != 0 {
+                break 10;
+            }
+            if u64::from(header.data_address) + header.length as u64 > size {
+                break 11;
+            }
+            if u64::from(header.address) + 4 > size {
+                break 12;
+            }
 
-    /// The first refusal that is due to a message that gets one.
-    #[cold]
-    #[inline(never)]
-    fn refuse_one(&self, header: Header, size: usize) -> Answer {
-        let step = header.transaction().wrapping_sub(self.lowest);
-        let slot = header.transaction() % 32;
-        let differs = self.table[slot as usize].terms != header.terms();
-        let number = if step >= 32 {
-            7
-        } else if self.closed >> step & 1 == 1 {
-            8
-        } else if self.open >> slot & 1 == 1 && differs {
-            9
-        } else if header.count() == 0 && header.length() != 0 {
-            10
-        } else if header.data_address() + header.length() > size {
-            11
-        } else {
-            12
+            let complete = received >= header.count;
+            // A transaction of one message leaves no trace in the table.
+            if !(complete && received == 1) {
+                if changed >> slot & 1 == 0 {
+                    changed |= 1 << slot;
+                    self.saved[slot] = *entry;
+                }
+                *entry = Entry {
+                    address: header.address,
+                    value: header.value,
+                    count: header.count,
+                    received: if complete { 0 } else { received },
+                };
+            }
+            let mut place = at as u16;
+            if complete {
+                place |= COMPLETING;
+                completed += 1;
+                closed |= 1 << step;
+                let run = closed.trailing_ones();
+                closed = closed.checked_shr(run).unwrap_or(0);
+                lowest = lowest.wrapping_add(run);
+            }
+            self.places[messages] = place;
+            messages += 1;
+            bytes += header.length;
+            if header.trailing == 0 {
+                break 0;
+            }
+            at = next_header(end);
         };
-        Answer::refused(number, 0)
-    }
-
-    /// Marks the frame's number and answers with the run from it on: the ones from its mark
-    /// on, whether or not next then moves past them.
-    #[inline(always)]
-    pub(super) fn accept(
-        &mut self,
-        frame: &[u8],
-        messages: u32,
-        bytes: u32,
-        completed: u16,
-        answer: &mut Answer,
-    ) {
-        let number = u16::from_le_bytes([frame[4], frame[5]]);
-        let distance = number.wrapping_sub(self.next);
-        let mut run = 1;
-        if distance == 0 && self.marks == 0 {
-            self.next = number.wrapping_add(1);
-        } else {
-            let marks = self.marks | 1 << (distance & 63);
-            run = (marks >> (distance & 63)).trailing_ones() as u16;
-            let passed = marks.trailing_ones();
-            self.marks = marks.checked_shr(passed).unwrap_or(0);
-            self.next = self.next.wrapping_add(passed as u16);
+        if refusal != 0 {
+            self.undo(changed);
+            // A layout that is broken further on comes first.
+            return if refusal == 5 || !is_whole(frame, at) {
+                refused(5)
+            } else {
+                Answer::Refused {
+                    number: refusal,
+                    place: messages as u32,
+                }
+            };
         }
-        *answer = Answer {
-            kind: ACCEPTED,
-            refusal: 0,
+        self.lowest = lowest;
+        self.closed = closed;
+        self.write(frame, memory, messages);
+        let run = self.mark(number);
+        Answer::Accepted {
             number,
-            messages,
-            bytes,
+            messages: messages as u32,
+            bytes: bytes as u32,
             completed,
             run,
-        };
+        }
     }
 
-    /// Writes the acknowledgement that an answer calls for; false where it calls for none.
-    #[inline(always)]
-    pub fn acknowledge(&self, answer: &Answer, next_number: u16, frame: &mut [u8; 10]) -> bool {
-        if answer.kind > AGAIN {
-            return false;
+    #[cold]
+    fn undo(&mut self, mut changed: u32) {
+        while changed != 0 {
+            let slot = changed.trailing_zeros() as usize;
+            self.open[slot] = self.saved[slot];
+            changed &= changed - 1;
         }
-        let ids = u64::from(self.ids.rotate_left(16));
-        let head = ids | u64::from(next_number) << 32 | u64::from(answer.number) << 48;
-        frame[..8].copy_from_slice(&head.to_le_bytes());
-        // The run is at most 255, and the flags are clear.
-        frame[8..].copy_from_slice(&answer.run.to_le_bytes());
-        true
+    }
+
+    #[inline(always)]
+    fn write(&self, frame: &[u8], memory: &mut [u8], messages: usize) {
+        for place in &self.places[..messages] {
+            let at = usize::from(place & !COMPLETING);
+            let Some(header) = Header::read(frame, at) else {
+                return;
+            };
+            let data = &frame[at + MESSAGE_HEADER..][..header.length];
+            copy(
+                &mut memory[header.data_address as usize..][..data.len()],
+                data,
+            );
+            if place & COMPLETING != 0 {
+                let value = header.value.to_le_bytes();
+                memory[header.address as usize..][..4].copy_from_slice(&value);
+            }
+        }
+    }
+
+    /// Marks an accepted number and gives the run from it on: the ones from its mark on,
+    /// whether or not next then moves past them.
+    #[inline(always)]
+    fn mark(&mut self, number: u16) -> u8 {
+        let distance = number.wrapping_sub(self.next);
+        self.marks |= 1 << distance;
+        let run = (self.marks >> distance).trailing_ones() as u8;
+        let passed = self.marks.trailing_ones();
+        self.marks = self.marks.checked_shr(passed).unwrap_or(0);
+        self.next = self.next.wrapping_add(passed as u16);
+        run
+    }
+
+    /// The run from a number on that is accepted or behind. The next one's mark is never
+    /// set, so that a run from behind ends there.
+    #[inline(always)]
+    fn run_again(&self, distance: u16) -> u8 {
+        if distance < FRAME_WINDOW {
+            (self.marks >> distance).trailing_ones() as u8
+        } else {
+            distance.wrapping_neg().min(LONGEST_RUN) as u8
+        }
+    }
+
+    /// The acknowledgement that an answer calls for.
+    pub fn acknowledgement(&self, answer: Answer, next_number: u16) -> Option<[u8; 10]> {
+        let (Answer::Accepted { number, run, .. } | Answer::Again { number, run }) = answer else {
+            return None;
+        };
+        let [own_low, own_high, peer_low, peer_high] = self.ids.to_le_bytes();
+        let [next_low, next_high] = next_number.to_le_bytes();
+        let [low, high] = number.to_le_bytes();
+        Some([
+            peer_low, peer_high, own_low, own_high, next_low, next_high, low, high, run, 0,
+        ])
     }
 }
 
-/// The answer where flags are not 1.
+fn refused(number: u8) -> Answer {
+    Answer::Refused { number, place: 0 }
+}
+
 #[inline(always)]
-fn without_messages(flags: u8) -> Answer {
-    if flags > 1 {
-        return Answer::refused(4, 0);
+pub(super) fn next_header(data_end: usize) -> usize {
+    ((data_end - 3) & !7) + FRAME_HEADER
+}
+
+/// Whether the messages from `at` on are all there.
+pub(super) fn is_whole(frame: &[u8], mut at: usize) -> bool {
+    loop {
+        let Some(header) = Header::read(frame, at) else {
+            return false;
+        };
+        let end = at + MESSAGE_HEADER + header.length;
+        if end > frame.len() {
+            return false;
+        }
+        if header.trailing == 0 {
+            return true;
+        }
+        at = next_header(end);
     }
-    Answer {
-        kind: NO_MESSAGES,
-        ..Answer::default()
+}
+
+/// Copies without a call for the few bytes that most messages have.
+#[inline(always)]
+pub(super) fn copy(to: &mut [u8], from: &[u8]) {
+    let length = from.len();
+    if (8..=16).contains(&length) {
+        let (first, last) = (&from[..8], &from[length - 8..]);
+        to[..8].copy_from_slice(first);
+        to[length - 8..].copy_from_slice(last);
+    } else {
+        to.copy_from_slice(from);
     }
 }

@@ -2,8 +2,7 @@
 //! from a map of all sources, and the place's pair, which knows both IDs, asks for them
 //! itself. It gives the same answers as the reference, which a test beside it compares.
 
-use super::host::{AGAIN, Answer, Host};
-use super::walk::{FRAME_HEADER, LONGEST_FRAME};
+use super::host::{Answer, FRAME_HEADER, Host, LONGEST_FRAME};
 
 const PLACES: usize = 16;
 /// What the map says of a source that is not registered.
@@ -76,8 +75,11 @@ impl Table {
         let Some(place) = self.places.get_mut(index as usize) else {
             return Err(28);
         };
-        place.pair.reopen(self.own, source);
-        (place.first, place.end) = (first, end);
+        *place = Place {
+            pair: Host::starting_at(self.own, source, 0, 0),
+            first,
+            end,
+        };
         self.free &= self.free - 1;
         self.map[usize::from(source)] = index as u8;
         Ok(())
@@ -89,8 +91,7 @@ impl Table {
         let Some(place) = self.places.get_mut(usize::from(index)) else {
             return Err(3);
         };
-        // Its pair is opened anew before it is used.
-        (place.first, place.end) = (0, 0);
+        *place = Place::free();
         self.free |= 1 << index;
         self.map[usize::from(source)] = NOWHERE;
         Ok(())
@@ -98,21 +99,18 @@ impl Table {
 
     /// Answers any bytes at all, with any front part of the memory.
     #[inline]
-    pub fn receive(&mut self, frame: &[u8], memory: &mut [u8], answer: &mut Answer) {
+    pub fn receive(&mut self, frame: &[u8], memory: &mut [u8]) -> Answer {
         let Some(&[_, _, low, high]) = frame.first_chunk() else {
-            *answer = self.refused(frame, 3);
-            return;
+            return self.refused(frame, 3);
         };
         let index = self.map[usize::from(u16::from_le_bytes([low, high]))];
         let Some(place) = self.places.get_mut(usize::from(index)) else {
-            *answer = self.refused(frame, 3);
-            return;
+            return self.refused(frame, 3);
         };
         let Some(region) = memory.get_mut(place.first as usize..place.end as usize) else {
-            *answer = self.refused(frame, 31);
-            return;
+            return self.refused(frame, 31);
         };
-        place.pair.receive(frame, region, answer);
+        place.pair.receive(frame, region)
     }
 
     /// The refusal of a frame that no pair sees: this one, unless an earlier one is due.
@@ -124,25 +122,25 @@ impl Table {
             Some(destination) if u16::from_le_bytes(*destination) != self.own => 3,
             _ => number,
         };
-        Answer::refused(number, 0)
+        Answer::Refused { number, place: 0 }
     }
 
     /// The acknowledgement that an answer to a frame of this source calls for.
     pub fn acknowledgement(
         &self,
-        answer: &Answer,
+        answer: Answer,
         source: u16,
         next_number: u16,
     ) -> Option<[u8; FRAME_HEADER]> {
-        if answer.kind > AGAIN {
+        let (Answer::Accepted { number, run, .. } | Answer::Again { number, run }) = answer else {
             return None;
-        }
+        };
         let mut frame = [0; FRAME_HEADER];
         frame[0..2].copy_from_slice(&source.to_le_bytes());
         frame[2..4].copy_from_slice(&self.own.to_le_bytes());
         frame[4..6].copy_from_slice(&next_number.to_le_bytes());
-        frame[6..8].copy_from_slice(&answer.number.to_le_bytes());
-        frame[8] = answer.run as u8;
+        frame[6..8].copy_from_slice(&number.to_le_bytes());
+        frame[8] = run;
         Some(frame)
     }
 }
