@@ -10,7 +10,9 @@ ghost use Rattle.replay_output.specs.Output.{got_of, at_end, stopped, room_after
 
 use replay_text::line::Totals;
 use replay_text::{Reply, answer, line};
+use std::fmt::Write;
 use std::io::{Error, Read};
+use std::{fmt, str};
 
 // How much of the output buffer is used, and whether reading or writing failed, or an answer was lost.
 #[derive(Clone, Copy)]
@@ -26,9 +28,50 @@ pub struct Got {
     pub failed: bool,
 }
 
+// Bytes of the longest text of an error that is kept.
+const WORDS_MOST: usize = 256;
+
+// The text of an error.
+#[derive(Drop)]
+struct Words {
+    bytes: [u8; WORDS_MOST],
+    len: usize,
+}
+
+impl fmt::Write for Words {
+    fn write_str(&mut self, s: &str) -> fmt::Result {
+        for b in s.as_bytes() {
+            if self.len < WORDS_MOST {
+                self.bytes[self.len] = *b;
+                self.len += 1;
+            }
+        }
+        Ok(())
+    }
+}
+
+// The text as it is kept. The library puts the error's number behind the words, which says nothing more.
+fn words_of(bytes: &[u8]) -> &str {
+    match str::from_utf8(bytes) {
+        Ok(text) => match text.split_once(" (os error ") {
+            Some((words, _)) => words,
+            None => text,
+        },
+        Err(_) => "",
+    }
+}
+
 // A line on standard error: what failed, and why. Where that can't be written, nothing else can tell it.
 fn say<E: Eprint>(rt: &E, what: &str, error: &Error) {
-    let _ = eprintln!(rt; "{what}: {error}");
+    let mut text = Words {
+        bytes: [0u8; WORDS_MOST],
+        len: 0,
+    };
+    let _ = text.write(*error);
+    if text.len <= WORDS_MOST {
+        let words = words_of(&text.bytes[..text.len]);
+        let _ = eprintln!(rt; "{what}: {words}");
+    }
 }
 
 // What the operating system's answer to a read into this piece means.
