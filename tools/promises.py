@@ -5,6 +5,10 @@ write as it is at exit, with a definition, over any input. So for each `pub fn`:
   no `requires`;
   if it returns something, an `ensures` with an equation whose left side is `result`, or `result.now`;
   for each parameter `x` of type `&mut`, an `ensures` with an equation whose left side is `x.new`.
+A method of a public trait promises for every type that has the trait, so it is read as a public function is; there a
+ghost member of the trait may stand before `result`, as `bits result`, since each type says what it means.
+What a function refuses is a `Result` whose error is a numbered reason: its `refusal_number` has to be equated, and the
+value that it holds where nothing is refused, by `IfOk result (λ x. x ≡ ..)`, unless that is `()`.
 Whether a clause has a name does not matter, nor in how many clauses the equations stand. An equation whose right side
 speaks of the result, or of anything at exit, does not count: two of them could lean on each other and say nothing. Nor
 does one under a condition, one of a choice or of an equivalence, or one of a value that only is claimed to be there
@@ -18,7 +22,7 @@ import re
 
 # Under these functions a result or a buffer at exit may be equated: the state that words stand for. What is left open
 # then is what the words do not mean.
-MEANINGS = ("pair_of", "card_of", "table_of", "ledger_in")
+MEANINGS = ("pair_of", "card_of", "table_of", "ledger_in", "choice_of")
 # The same of several buffers that hold one state together: each is an argument.
 MEANINGS_TOGETHER = ("replaying_of",)
 
@@ -39,8 +43,11 @@ class Function:
     """A function: whether it is public, where it stands and ends, its name, parameters, result, clauses, each clause as
     (kind, text), body, and whether all between its head and its body was read."""
 
-    def __init__(self, head, text):
-        self.public, self.name = head.group(1) is not None, head.group(2)
+    def __init__(self, head, text, members=(), implements=""):
+        # members: the ghost members of the public trait that it is a method of; such a method is public.
+        # implements: the trait that the block `impl Trait for ..` around it is of, if it stands in one.
+        self.public, self.name = head.group(1) is not None or bool(members), head.group(2)
+        self.members, self.implements = members, implements
         end = past(text, head.end() - 1)
         self.parameters = [p.strip() for p in split_at(text[head.end() : end - 1], ",") if p.strip()]
         result = RESULT.match(text, end)
@@ -49,6 +56,10 @@ class Function:
         while clause := CLAUSE.match(text, at):
             at = past(text, clause.end() - 1)
             self.clauses.append((clause.group(1) + clause.group(2), text[clause.end() : at - 1]))
+        # A trait's method may end without a body.
+        if re.match(r"\s*;", text[at:]):
+            self.is_read, self.position, self.end, self.body = True, head.start(), at, ""
+            return
         body = text.index("{", at)
         self.is_read = not text[at:body].strip() and len(split_at(self.result, ";")) == 1
         self.position, self.end = head.start(), past(text, body)
@@ -142,10 +153,44 @@ def conjuncts(text):
     return [text] if parts == [text] else [c for part in parts for c in conjuncts(part)]
 
 
+TRAIT = re.compile(r"\bpub trait (\w+)[^{;]*\{")
+MEMBER = re.compile(r"\bghost (\w+)\s*:")
+
+
+def traits(text):
+    """The public traits of a source, each as (start, end, its ghost members)."""
+    for head in TRAIT.finditer(text):
+        end = past(text, head.end() - 1)
+        yield head.start(), end, tuple(MEMBER.findall(text[head.start() : end])) or ("",)
+
+
+IMPLEMENTING = re.compile(r"\bimpl(?:<[^>]*>)?\s+(?:\w+::)*(\w+)(?:<[^>]*>)?\s+for\s+[^{]*\{")
+
+
+def implementing(text):
+    """The blocks `impl Trait for ..` of a source, each as (start, end, the trait's name)."""
+    for head in IMPLEMENTING.finditer(text):
+        yield head.start(), past(text, head.end() - 1), head.group(1)
+
+
+def trait_names(files):
+    """The names of the public traits of sources."""
+    found = set()
+    for name in files:
+        with open(name, encoding="utf-8") as file:
+            found.update(TRAIT.findall(without_comments(file.read())))
+    return found
+
+
 def functions(text):
-    """The functions of a source."""
+    """The functions of a source. A method in a block `impl Trait for ..` promises what its trait does."""
     text = without_comments(text)
-    return [Function(head, text) for head in HEAD.finditer(text)]
+    within, blocks = list(traits(text)), list(implementing(text))
+    around = lambda at, of, none: next((what for start, end, what in of if start < at < end), none)
+    return [
+        Function(head, text, around(head.start(), within, ()), around(head.start(), blocks, ""))
+        for head in HEAD.finditer(text)
+    ]
 
 
 def public_functions(text):
@@ -244,13 +289,19 @@ def covers(where):
     return () in where or any(b in heads and covers(behind[a]) and covers(behind[b]) for a, b in contrary)
 
 
+def forms_of(function, subject):
+    """How a promise of the function may name the subject."""
+    refuses = subject == "result" and function.result.startswith("Result<")
+    return {subject, f"{subject}.now"} | ({f"refusal_number {subject}"} if refuses else set())
+
+
 def related(function, subject, relations, lets_off):
     """Whether a relation that the function promises equates the subject. lets_off says of a relation whether the cases
     in which it does are all, though they are not each other's contrary."""
     for name, arguments in function.relations():
         unknown = [at for at, argument in enumerate(arguments) if not is_given(argument)]
         for at, argument in enumerate(arguments):
-            if argument in (subject, f"{subject}.now") and name in relations:
+            if argument in forms_of(function, subject) and name in relations:
                 if all(determines(definition, at, unknown) for definition in relations[name]):
                     return True
                 if all(equated(definition, at) for definition in relations[name]) and lets_off(name):
@@ -258,11 +309,11 @@ def related(function, subject, relations, lets_off):
     return False
 
 
-def is_left(left, subject):
-    """Whether the left side of an equation is the subject itself, or what it means."""
+def is_left(left, subject, members=()):
+    """Whether the left side of an equation is the subject itself, or what it means, also by a trait's ghost member."""
     forms = {subject, f"{subject}.now"}
     meaning, *arguments = [bare(term) for term in split_at(left, " ")]
-    if meaning in MEANINGS:
+    if meaning in MEANINGS or meaning in members:
         return len(arguments) == 1 and arguments[0] in forms
     return left in forms or meaning in MEANINGS_TOGETHER and bool(forms & set(arguments))
 
@@ -281,12 +332,46 @@ def equates(function, subject, relations, lets_off):
     """Whether a promise of the function says what the subject is, by an equation or a relation."""
     if related(function, subject, relations, lets_off):
         return True
-    return any(is_left(left, subject) and is_given(right) for left, right in function.equations())
+    return any(is_left(left, subject, function.members) and is_given(right) for left, right in function.equations())
+
+
+# A promise on the value of a `Result` where nothing is refused.
+IF_OK = re.compile(r"IfOk result \(λ (\w+)\. (.*)\)")
+
+
+def equates_number(function, relations, lets_off):
+    """Whether a promise of the function says which reason it refuses for, if any."""
+    if related(function, "result", relations, lets_off):
+        return True
+    return any(left == "refusal_number result" and is_given(right) for left, right in function.equations())
+
+
+def equates_value(function, structs):
+    """Whether a promise of the function says which value it returns where it refuses nothing: as a whole, or each field
+    of it."""
+    value = re.match(r"Result<(.*), \w+>$", function.result).group(1)
+    if value == "()":
+        return True
+    said = set()
+    for part in function.promised():
+        if found := IF_OK.fullmatch(bare(part)):
+            name, body = found.groups()
+            for fact in conjuncts(body):
+                sides = [bare(side) for side in split_at(fact, "≡")]
+                if len(sides) == 2 and is_given(sides[1]) and not speaks_of(sides[1], name):
+                    said.add("" if is_left(sides[0], name) else sides[0].removeprefix(name))
+    fields = structs.get(value, [])
+    return "" in said or fields != [] and all(f".{field}" in said for field in fields)
 
 
 def equates_result(function, relations, structs, lets_off):
     """Whether a promise of the function says what it returns: as a whole, or each field of it."""
-    if equates(function, "result", relations, lets_off):
+    if re.match(r"Result<.*, \w+>$", function.result):
+        if any(is_left(left, "result") and is_given(right) for left, right in function.equations()):
+            return True
+        if equates_number(function, relations, lets_off) and equates_value(function, structs):
+            return True
+    elif equates(function, "result", relations, lets_off):
         return True
     said = [left for left, right in function.equations() if is_given(right)]
     fields = structs.get(function.result, [])

@@ -11,10 +11,14 @@ use borrow.Author.Tests.{lt-ltb, le-ltb, le-leb, lt-leb}
 use lib.Dec.{eqb, leb, ltb}
 use lib.Bits.{bit_and, bit_or, and_shr, and_mod, and_lt, or_shr, or_mod}
 use lib.Pow.{pow_pos, pow_mono, pow-lt}
-use Rattle.bitmap.specs.Marks.{mark, trailing_ones, marks_of}
+use Rattle.bitmap.specs.Marks.{mark, with_mark, trailing_ones, marks_of}
 use Rattle.bitmap.specs.Masks.{marks_below, marks_between}
 use Rattle.bitmap.proofs.Marks.{
   leading-is,
+  shift_past,
+  or-shl,
+  with_mark-past,
+  ones-trailing,
   bit-two,
   mark-of-zero,
   mark-zero,
@@ -167,3 +171,29 @@ between_is width start end =
     go : (i : ℕ) → Dec (i < start) → (ltb i end && not (ltb i start)) ≡ (leb start i && ltb i end)
     go i (yes k) = rw (lt-ltb i start k, lt-leb start i k) (and-false (ltb i end))
     go i (no k) = rw (le-ltb i start (omega arith), le-leb start i (omega arith)) (and-true (ltb i end))
+
+-- ---- what the methods of words rest on, in the form in which a goal names it
+
+module _ (width : ℕ) where
+  pub with_mark-or : (m i : ℕ) → i < width → with_mark width m i ≡ bit_or m (1 * 2 ^ i % 2 ^ width)
+  with_mark-or m i h = sym (or-shl width m i h)
+
+  pub below-shl : (end : ℕ) → end < width → marks_below width end ≡ 1 * 2 ^ end % 2 ^ width - 1
+  below-shl end h = sym (rw (shl_one width end h) (below-is width end (omega arith)))
+
+pub shift_past_32 : (m k : ℕ) → m < 2 ^ 32 → 32 ≤ k → m / 2 ^ k ≡ 0
+shift_past_32 = shift_past 32
+
+pub shift_past_64 : (m k : ℕ) → m < 2 ^ 64 → 64 ≤ k → m / 2 ^ k ≡ 0
+shift_past_64 = shift_past 64
+
+pub ruleset words = (
+  with_mark-or,
+  with_mark-past,
+  shift_past_32,
+  shift_past_64,
+  ones-trailing,
+  below-shl,
+  below_all,
+  between_is,
+)

@@ -1,56 +1,32 @@
 // Marks in a word of 64 bits. The facts about marks are shown once for any width, and cited here at 64.
-ghost use Rattle.std.specs.Prelude.{◌≡◌, ◌/◌, ◌^◌};
-ghost use Rattle.bitmap.specs.Marks.{mark, with_mark, trailing_ones};
-ghost use Rattle.bitmap.specs.Masks.{marks_below, marks_between};
+use crate::Bitmap;
 
-pub fn is_marked(m: u64, i: u32) -> bool
-    ensures { result ≡ mark m i }
-{
-    if i >= 64 {
-        return false;
+impl Bitmap for u64 {
+    ghost width = { 64 };
+
+    ghost bits = { λ m. m };
+
+    fn is_marked(self, i: u32) -> bool {
+        self.shifted(i) % 2 == 1
     }
-    (m >> i) % 2 == 1
-}
 
-pub fn with_mark(m: u64, i: u32) -> u64
-    ensures { result ≡ with_mark 64 m i }
-{
-    if i >= 64 {
-        return m;
+    fn with_mark(self, i: u32) -> u64 {
+        if i < 64 { self | (1 << i) } else { self }
     }
-    m | (1 << i)
-}
 
-// The marks from k on, with mark k as the first.
-pub fn shifted(m: u64, k: u32) -> u64
-    ensures { result ≡ m / 2 ^ k }
-{
-    if k >= 64 {
-        return 0;
+    fn shifted(self, k: u32) -> u64 {
+        self.checked_shr(k).unwrap_or(0)
     }
-    m >> k
-}
 
-// How many marks are set before the first clear one: the zeros that the inverted word ends with.
-pub fn trailing_ones(m: u64) -> u32
-    ensures { result ≡ trailing_ones 64 m }
-{
-    u64::trailing_zeros(!m)
-}
-
-// The word of all marks below end.
-pub fn below(end: u32) -> u64
-    ensures { result ≡ marks_below 64 end }
-{
-    if end >= 64 {
-        return 18446744073709551615;
+    fn run_length(self) -> u32 {
+        self.trailing_ones()
     }
-    (1 << end) - 1
-}
 
-// The word of the marks from start on that are below end.
-pub fn between(start: u32, end: u32) -> u64
-    ensures { result ≡ marks_between 64 start end }
-{
-    below(end) & !below(start)
+    fn below(end: u32) -> u64 {
+        if end < 64 { (1 << end) - 1 } else { u64::MAX }
+    }
+
+    fn between(start: u32, end: u32) -> u64 {
+        u64::below(end) & !u64::below(start)
+    }
 }

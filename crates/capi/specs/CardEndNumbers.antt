@@ -1,7 +1,7 @@
 -- A card for C: a number that is handed back only where a step is not refused, and parts of buffers as numbers.
 use Rattle.std.specs.Prelude.{ℕ, cond, List, [], ◌∷◌, eqb}
 use Rattle.card_send.specs.declared.show.Part.{Part}
-use Rattle.card_send.specs.declared.choose.Choice.{Choice}
+use Rattle.card_send.specs.Choices.{Choice}
 
 -- Where a step is refused, what was there stays.
 abbrev pub unless_refused : ℕ → ℕ → ℕ → ℕ

@@ -5,7 +5,7 @@ ghost use Rattle.ledger.specs.Ledger.{empty};
 ghost use Rattle.ledger_words.specs.LedgerWords.{ledger_in};
 ghost use Rattle.logwhisker.specs.Face.{LeftIfRefused, block_taken, total_told, sum_told};
 
-use logwhisker::billing;
+use logwhisker::{billing, refusal_number};
 
 // Opens a ledger.
 #[unsafe(no_mangle)]
@@ -22,7 +22,7 @@ pub extern "C" fn lw_raw_ledger_take(words: &mut [u64; 2049], block: &[u8]) -> u
     ensures words_after { ledger_in words.new ≡ (block_taken words.old block.now).ledger }
     ensures left_if_refused { LeftIfRefused result words.old words.new }
 {
-    billing::take(words, block) as u32
+    u32::from(refusal_number(&billing::take(words, block)))
 }
 
 // Writes what is charged to a subscriber, and answers 1 where it was ever read, else 0.
@@ -32,11 +32,8 @@ pub extern "C" fn lw_raw_ledger_total(words: &[u64; 2049], subscriber: u32, tota
     ensures total_after { total.new ≡ (total_told words.now subscriber).bytes }
 {
     let told = billing::total(words, subscriber);
-    *total = told.bytes;
-    if told.read {
-        return 1;
-    }
-    0
+    *total = told.unwrap_or(0);
+    u32::from(told.is_some())
 }
 
 // The sum of what is charged to all.

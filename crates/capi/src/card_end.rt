@@ -1,10 +1,10 @@
 // The card for C, behind the functions of include/logwhisker.h: numbers, slices and references to arrays only. Assumes
 // of a caller that pointers and lengths are right. It promises what the library's face does, with parts as numbers
 // (specs/CardEndNumbers.antt).
-ghost use Rattle.std.specs.Prelude.{◌≡◌, cond};
+ghost use Rattle.std.specs.Prelude.{◌≡◌};
 ghost use Rattle.card.specs.Card.{open_transaction, seal_frame};
 ghost use Rattle.card_send.specs.Parts.{shown_part};
-ghost use Rattle.card_send.specs.Choices.{chosen_part};
+ghost use Rattle.card_send.specs.Choices.{choice_of, chosen_part};
 ghost use Rattle.card_words.specs.Words.{card_of};
 ghost use Rattle.logwhisker.specs.Face.{
   card_opened,
@@ -18,7 +18,7 @@ ghost use Rattle.logwhisker.specs.Face.{
 };
 ghost use Rattle.capi.specs.CardEndNumbers.{unless_refused, part_numbers, choice_numbers};
 
-use logwhisker::{FrameNo, TransNo};
+use logwhisker::{Chosen, FrameNo, TransNo, refusal_number};
 
 // Opens a card: 0, or 13, or 26.
 #[unsafe(no_mangle)]
@@ -32,7 +32,8 @@ pub extern "C" fn lw_raw_card_open(
     ensures value { result ≡ (card_opened own peer limit slots.now).refusal }
     ensures words_after { card_of words.new ≡ (card_opened own peer limit slots.now).card }
 {
-    logwhisker::open_card(words, own, peer, limit, slots) as u32
+    let opened = logwhisker::open_card(words, own, peer, limit, slots);
+    u32::from(refusal_number(&opened))
 }
 
 // Opens a transaction: 0 and its number, or 20.
@@ -52,11 +53,10 @@ pub extern "C" fn lw_raw_card_open_transaction(
     ensures left_if_refused { LeftIfRefused result words.old words.new }
 {
     let opened = logwhisker::open_transaction(words, count, address, value);
-    if opened.refusal != 0 {
-        return opened.refusal as u32;
+    if let Ok(trans) = opened {
+        *transaction = trans.0;
     }
-    *transaction = opened.trans.0;
-    0
+    u32::from(refusal_number(&opened))
 }
 
 // Adds a message to the frame being built.
@@ -76,7 +76,8 @@ pub extern "C" fn lw_raw_card_add(
         ≡ (message_added words.old slots.old transaction address payload.now).slots }
     ensures left_if_refused { LeftIfRefused result words.old words.new }
 {
-    logwhisker::add_message(words, slots, TransNo(transaction), address, payload) as u32
+    let added = logwhisker::add_message(words, slots, TransNo(transaction), address, payload);
+    u32::from(refusal_number(&added))
 }
 
 // Seals the frame being built: 0 and its number, or 26, or 24.
@@ -90,11 +91,10 @@ pub extern "C" fn lw_raw_card_seal(words: &mut [u64; 85], slots: &[u8], number: 
     ensures left_if_refused { LeftIfRefused result words.old words.new }
 {
     let sealed = logwhisker::seal_frame(words, slots);
-    if sealed.refusal != 0 {
-        return sealed.refusal as u32;
+    if let Ok(frame) = sealed {
+        *number = frame.0;
     }
-    *number = sealed.number.0;
-    0
+    u32::from(refusal_number(&sealed))
 }
 
 // Reads the acknowledgements of an arriving frame.
@@ -104,7 +104,8 @@ pub extern "C" fn lw_raw_card_read(words: &mut [u64; 85], frame: &[u8]) -> u32
     ensures words_after { card_of words.new ≡ (acks_read words.old frame.now).card }
     ensures left_if_refused { LeftIfRefused result words.old words.new }
 {
-    logwhisker::read_acknowledgements(words, frame) as u32
+    let read = logwhisker::read_acknowledgements(words, frame);
+    u32::from(refusal_number(&read))
 }
 
 // Shows a held frame: where it lies in the slots, and how long it is.
@@ -120,18 +121,21 @@ pub extern "C" fn lw_raw_card_show(
         ≡ part_numbers (shown_part words.now slots.now number).part }
 {
     let shown = logwhisker::show_part(words, slots, FrameNo(number));
-    let bounds = shown.part;
-    *part = [bounds.offset as u64, bounds.len as u64];
-    shown.refusal as u32
+    *part = match shown {
+        Ok(bounds) => [bounds.offset as u64, bounds.len as u64],
+        Err(_) => [0, 0],
+    };
+    u32::from(refusal_number(&shown))
 }
 
-fn one_if(lent: bool) -> u64
-    ensures { result ≡ cond lent 1 0 }
+// From which buffer a choice is, where it lies there, and how long it is.
+fn numbers_of(chosen: Chosen) -> [u64; 3]
+    ensures { result ≡ choice_numbers (choice_of chosen) }
 {
-    if lent {
-        return 1;
+    match chosen {
+        Chosen::Acknowledgement => [1, 0, wire::FRAME_HEADER as u64],
+        Chosen::Frame(bounds) => [0, bounds.offset as u64, bounds.len as u64],
     }
-    0
 }
 
 // Chooses what goes out next: from which buffer (1 the lent acknowledgement, 0 the slots), where it lies there, and how
@@ -148,7 +152,9 @@ pub extern "C" fn lw_raw_card_choose(
         ≡ choice_numbers (chosen_part words.now slots.now ack.now) }
 {
     let chosen = logwhisker::choose_part(words, slots, ack);
-    let bounds = chosen.part;
-    *part = [one_if(chosen.lent), bounds.offset as u64, bounds.len as u64];
-    chosen.refusal as u32
+    *part = match chosen {
+        Ok(choice) => numbers_of(choice),
+        Err(_) => [0, 0, 0],
+    };
+    u32::from(refusal_number(&chosen))
 }

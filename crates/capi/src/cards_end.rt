@@ -20,7 +20,7 @@ ghost use Rattle.logwhisker.specs.Face.{
   card_adopted,
 };
 
-use logwhisker::{FrameNo, cards};
+use logwhisker::{FrameNo, cards, refusal_number};
 
 // Opens a table: 0, or 13 where our ID is 0.
 #[unsafe(no_mangle)]
@@ -28,7 +28,7 @@ pub extern "C" fn lw_raw_table_open(words: &mut [u64; 1121], own: u16) -> u32
     ensures value { result ≡ (table_opened own).refusal }
     ensures words_after { table_of words.new ≡ (table_opened own).table }
 {
-    cards::open(words, own) as u32
+    u32::from(refusal_number(&cards::open(words, own)))
 }
 
 // Registers a card with a region of a memory of that length: 0, or the refusal.
@@ -45,7 +45,7 @@ pub extern "C" fn lw_raw_table_register(
         ≡ (card_registered words.old source first size memory).table }
     ensures left_if_refused { LeftIfRefused result words.old words.new }
 {
-    cards::register(words, source, first, size, memory) as u32
+    u32::from(refusal_number(&cards::register(words, source, first, size, memory)))
 }
 
 // Removes a card: 0, or 3.
@@ -55,7 +55,7 @@ pub extern "C" fn lw_raw_table_remove(words: &mut [u64; 1121], source: u16) -> u
     ensures words_after { table_of words.new ≡ (card_removed words.old source).table }
     ensures left_if_refused { LeftIfRefused result words.old words.new }
 {
-    cards::remove(words, source) as u32
+    u32::from(refusal_number(&cards::remove(words, source)))
 }
 
 // Receives a frame, and answers the kind of the answer, whose words are written, as is the source that the frame names.
@@ -121,7 +121,7 @@ pub extern "C" fn lw_raw_table_take(words: &[u64; 1121], source: u16, pair: &mut
         ≡ taken_into (table_of words.now) source (pair_of pair.old) }
     ensures left_if_refused { LeftIfRefused result pair.old pair.new }
 {
-    cards::take(words, source, pair) as u32
+    u32::from(refusal_number(&cards::take(words, source, pair)))
 }
 
 // Registers the card that is a host's peer, with the host's pair: 0, or the refusal.
@@ -139,7 +139,7 @@ pub extern "C" fn lw_raw_table_adopt(
         ≡ (card_adopted words.old pair.now first size memory).table }
     ensures left_if_refused { LeftIfRefused result words.old words.new }
 {
-    cards::adopt(words, pair, first, size, memory) as u32
+    u32::from(refusal_number(&cards::adopt(words, pair, first, size, memory)))
 }
 
 // Describes a table: our ID, and each place's source and region.

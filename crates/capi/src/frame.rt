@@ -4,10 +4,11 @@
 ghost use Rattle.std.specs.Prelude.{◌≡◌};
 ghost use Rattle.bitmap.specs.Marks.{trailing_ones};
 ghost use Rattle.refusal.specs.Class.{class_of, class_number};
-ghost use Rattle.wire_read.specs.Layout.{number_of, messages_of, bytes_of};
+ghost use Rattle.wire.specs.Reading.{refusal_of};
+ghost use Rattle.wire_read.specs.Layout.{messages_of, bytes_of};
 ghost use Rattle.capi.specs.Numbers.{layout_in, header_in};
 
-use bitmap::word64;
+use bitmap::Bitmap;
 use seq::FrameNo;
 use wire::FrameHeader;
 use wire_read::layout;
@@ -15,9 +16,9 @@ use wire_read::layout;
 // 0 where the layout can be read, else the refusal: 1, 2, 4 or 5.
 #[unsafe(no_mangle)]
 pub extern "C" fn lw_layout_refusal(frame: &[u8]) -> u32
-    ensures { result ≡ number_of (layout_in frame.now) }
+    ensures { result ≡ refusal_of (layout_in frame.now) }
 {
-    layout::layout_of(frame).refusal() as u32
+    u32::from(refusal::refusal_number(&layout::layout_of(frame)))
 }
 
 // How many messages the frame has; 0 where the layout is refused.
@@ -25,7 +26,7 @@ pub extern "C" fn lw_layout_refusal(frame: &[u8]) -> u32
 pub extern "C" fn lw_message_count(frame: &[u8]) -> u32
     ensures { result ≡ messages_of (layout_in frame.now) }
 {
-    layout::layout_of(frame).messages()
+    layout::layout_of(frame).map_or(0, |read| read.messages)
 }
 
 // How many data bytes its messages carry; 0 where the layout is refused.
@@ -33,18 +34,16 @@ pub extern "C" fn lw_message_count(frame: &[u8]) -> u32
 pub extern "C" fn lw_data_bytes(frame: &[u8]) -> u32
     ensures { result ≡ bytes_of (layout_in frame.now) }
 {
-    layout::layout_of(frame).data_bytes()
+    layout::layout_of(frame).map_or(0, |read| read.data_bytes)
 }
 
 // The frame header, as it stands on the wire; zeros where the layout is refused. Each call below gives a field of it.
 fn header_in(frame: &[u8]) -> FrameHeader
     ensures { result ≡ header_in frame.now }
 {
-    let read = layout::layout_of(frame);
-    let header = wire_read::frame_header(frame);
-    match read {
-        layout::Layout::Counts(_, _) => header,
-        layout::Layout::Refused(_) => FrameHeader {
+    match layout::layout_of(frame) {
+        Ok(_) => wire_read::frame_header(frame),
+        Err(_) => FrameHeader {
             destination: 0,
             source: 0,
             number: FrameNo(0),
@@ -59,42 +58,42 @@ fn header_in(frame: &[u8]) -> FrameHeader
 pub extern "C" fn lw_destination(frame: &[u8]) -> u32
     ensures { result ≡ (header_in frame.now).destination }
 {
-    header_in(frame).destination as u32
+    u32::from(header_in(frame).destination)
 }
 
 #[unsafe(no_mangle)]
 pub extern "C" fn lw_source(frame: &[u8]) -> u32
     ensures { result ≡ (header_in frame.now).source }
 {
-    header_in(frame).source as u32
+    u32::from(header_in(frame).source)
 }
 
 #[unsafe(no_mangle)]
 pub extern "C" fn lw_frame_number(frame: &[u8]) -> u32
     ensures { result ≡ (header_in frame.now).number.0 }
 {
-    header_in(frame).number.0 as u32
+    u32::from(header_in(frame).number.0)
 }
 
 #[unsafe(no_mangle)]
 pub extern "C" fn lw_ack_start(frame: &[u8]) -> u32
     ensures { result ≡ (header_in frame.now).ackstart.0 }
 {
-    header_in(frame).ackstart.0 as u32
+    u32::from(header_in(frame).ackstart.0)
 }
 
 #[unsafe(no_mangle)]
 pub extern "C" fn lw_ack_count(frame: &[u8]) -> u32
     ensures { result ≡ (header_in frame.now).ackcount }
 {
-    header_in(frame).ackcount as u32
+    u32::from(header_in(frame).ackcount)
 }
 
 #[unsafe(no_mangle)]
 pub extern "C" fn lw_flags(frame: &[u8]) -> u32
     ensures { result ≡ (header_in frame.now).flags }
 {
-    header_in(frame).flags as u32
+    u32::from(header_in(frame).flags)
 }
 
 // The class of a refusal number: 0 none, 1 wire, 2 message, 3 caller, 4 card.
@@ -102,7 +101,7 @@ pub extern "C" fn lw_flags(frame: &[u8]) -> u32
 pub extern "C" fn lw_refusal_class(refusal: u32) -> u32
     ensures { result ≡ class_number (class_of refusal) }
 {
-    refusal::class_number(refusal::class_of(refusal))
+    u32::from(refusal::class_of(refusal))
 }
 
 // How many of 64 marks are set below the lowest clear one; 64 without a clear one.
@@ -110,5 +109,5 @@ pub extern "C" fn lw_refusal_class(refusal: u32) -> u32
 pub extern "C" fn lw_trailing_ones(marks: u64) -> u32
     ensures { result ≡ trailing_ones 64 marks }
 {
-    word64::trailing_ones(marks)
+    marks.run_length()
 }

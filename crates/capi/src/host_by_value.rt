@@ -17,9 +17,8 @@ pub extern "C" fn lw_raw_host_open_by_value(words: &mut [u64; 67], own: u16, pee
     ensures words_after { pair_of words.new ≡ (host_opened own peer).pair }
 {
     let opened = logwhisker::open_host_by_value(own, peer);
-    let pair = opened.pair;
-    pack::pack(words, pair);
-    opened.refusal.number as u32
+    pack::pack(words, opened.pair);
+    u32::from(opened.refusal.number)
 }
 
 // Receives a frame, and answers the kind of the answer, whose words are written. The pair is packed only where the
@@ -44,6 +43,7 @@ pub extern "C" fn lw_raw_host_receive_by_value(
 {
     let stepped = logwhisker::receive_by_value(pack::unpack(words), frame, memory);
     let a = stepped.answer;
+    // A number, since C is told it.
     let kind = logwhisker::kind_of(a);
     if kind == 1 {
         let pair = stepped.pair;

@@ -15,7 +15,7 @@ ghost use Rattle.logwhisker.specs.Face.{
   host_restored,
 };
 
-use logwhisker::FrameNo;
+use logwhisker::{FrameNo, refusal_number};
 
 // Opens a host: 0, or 13 where an ID is 0.
 #[unsafe(no_mangle)]
@@ -23,7 +23,8 @@ pub extern "C" fn lw_raw_host_open(words: &mut [u64; 67], own: u16, peer: u16) -
     ensures value { result ≡ (host_opened own peer).refusal.number }
     ensures words_after { pair_of words.new ≡ (host_opened own peer).pair }
 {
-    logwhisker::open_host(words, own, peer) as u32
+    let opened = logwhisker::open_host(words, own, peer);
+    u32::from(refusal_number(&opened))
 }
 
 // Receives a frame, and answers the kind of the answer, whose words are written.
@@ -92,8 +93,8 @@ pub extern "C" fn lw_raw_host_store(words: &[u64; 67], text: &mut [u8], length: 
     ensures length_after { length.new ≡ (host_stored words.now text.old).length }
 {
     let stored = logwhisker::store_host(words, text);
-    *length = stored.length;
-    stored.refusal as u32
+    *length = stored.unwrap_or(0);
+    u32::from(refusal_number(&stored))
 }
 
 // Reads a host's pair back from its text: 0, or 15.
@@ -102,5 +103,6 @@ pub extern "C" fn lw_raw_host_restore(words: &mut [u64; 67], text: &[u8]) -> u32
     ensures value { result ≡ (host_restored text.now).refusal.number }
     ensures words_after { pair_of words.new ≡ (host_restored text.now).pair }
 {
-    logwhisker::restore_host(words, text) as u32
+    let restored = logwhisker::restore_host(words, text);
+    u32::from(refusal_number(&restored))
 }

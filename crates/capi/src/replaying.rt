@@ -1,12 +1,12 @@
 // The replay from fragments for C, behind the functions of include/logwhisker.h: numbers, slices and references to
 // arrays only. Assumes of a caller that pointers and lengths are right. It promises what replay_feed does, with what
 // is said of a line as a number and words (specs/Replies.antt).
-ghost use Rattle.std.specs.Prelude.{◌≡◌, [], ◌∷◌, replicate};
+ghost use Rattle.std.specs.Prelude.{◌≡◌, [], ◌∷◌, replicate, Ok};
 ghost use Rattle.replay_text.specs.Feeding.{feed as feed_of, close as close_of, LeftIfClosed};
 ghost use Rattle.replay_feed.specs.State.{replaying_of, OpensReplay};
 ghost use Rattle.capi.specs.Replies.{reply_number, reply_words, totals_unless_refused};
 
-use logwhisker::Reply;
+use logwhisker::Answer;
 
 // Opens a replay.
 #[unsafe(no_mangle)]
@@ -21,18 +21,17 @@ pub extern "C" fn lw_raw_replay_open(
     logwhisker::open_replay(place, words, memory);
 }
 
-// The number of what is said of a line; an answer's words are written.
-fn put_reply(answer: &mut [u64; 8], reply: Reply) -> u32
-    ensures value { result ≡ reply_number reply }
-    ensures answer_after { answer.new ≡ reply_words reply answer.old }
+// 1 where a line is answered, whose words are written, and 0 where none is.
+fn put_line(answer: &mut [u64; 8], line: Option<Answer>) -> u32
+    ensures value { result ≡ reply_number (Ok line) }
+    ensures answer_after { answer.new ≡ reply_words (Ok line) answer.old }
 {
-    match reply {
-        Reply::Answered(a) => {
+    match line {
+        Some(a) => {
             logwhisker::put_answer(answer, a);
             1
         }
-        Reply::Nothing => 0,
-        Reply::Refused(n) => n as u32,
+        None => 0,
     }
 }
 
@@ -68,10 +67,16 @@ pub extern "C" fn lw_raw_replay_feed(
         (place.old ∷ words.old ∷ frame.old ∷ memory.old ∷ [])
         (place.new ∷ words.new ∷ frame.new ∷ memory.new ∷ []) }
 {
-    let fed = logwhisker::feed_replay(place, words, frame, memory, fragment);
-    *taken = fed.taken;
-    let reply = fed.reply;
-    put_reply(answer, reply)
+    match logwhisker::feed_replay(place, words, frame, memory, fragment) {
+        Ok(fed) => {
+            *taken = fed.taken;
+            put_line(answer, fed.answer)
+        }
+        Err(reason) => {
+            *taken = 0;
+            reason.number().into()
+        }
+    }
 }
 
 // Closes a replay: 1 and the answer of a last line, 0 where there is none, and the totals; or 17.
@@ -102,13 +107,12 @@ pub extern "C" fn lw_raw_replay_close(
         (place.old ∷ words.old ∷ memory.old ∷ [])
         (place.new ∷ words.new ∷ memory.new ∷ []) }
 {
-    let closed = logwhisker::close_replay(place, words, frame, memory);
-    let t = closed.totals;
-    let reply = closed.reply;
-    let said = put_reply(answer, reply);
-    if 1 < said {
-        return said;
+    match logwhisker::close_replay(place, words, frame, memory) {
+        Ok(closed) => {
+            let t = closed.totals;
+            *totals = [t.messages, t.bytes, t.completed];
+            put_line(answer, closed.answer)
+        }
+        Err(reason) => reason.number().into(),
     }
-    *totals = [t.messages, t.bytes, t.completed];
-    said
 }

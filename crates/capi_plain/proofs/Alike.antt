@@ -5,7 +5,7 @@ use mathlib.Core.Path.{◌≡◌, refl, sym, ap, ◌∙◌}
 use mathlib.Core.List.{List, [], ◌∷◌, map}
 use Prim.Native.Nat.{ℕ, ◌^◌, ◌<◌}
 use lib.ListN.{get_or}
-use Rattle.host.specs.declared.Acknowledgement.{Acknowledgement}
+use Rattle.std.specs.Prelude.{Option}
 use Rattle.host.specs.declared.Pair.{Pair}
 use Rattle.host.specs.declared.Refusal.{Refusal}
 use Rattle.words.proofs.Words.{part-lt}
@@ -101,7 +101,7 @@ module _ (w v memory : List ℕ) (k : Alike w v) where
       let s = same_step (pair_of w) (plain_of v) (typed w k.marks-fit) (plain-typed v) k.alike f memory in
       rw (s.0, s.1.0)
   same-shown (acknowledges answer num buffer) =
-      ap (λ (a : Acknowledgement). due_shows a buffer memory)
+      ap (λ (a : Option (List ℕ)). due_shows a buffer memory)
       (same-acknowledgements (pair_of w) (plain_of v) k.alike _ num)
 
   same_left : (c : Call) → Allowed c → (left : List ℕ) → pair_of left ≡ host_leaves c w memory

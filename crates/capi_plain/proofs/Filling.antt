@@ -1,43 +1,36 @@
--- A loop that fills an array place by place with the values of a function.
+-- An array whose elements a closure gives, one for each index.
 -- Assumes nothing.
-use mathlib.Core.Path.{◌≡◌, sym, ◌∙◌}
-use mathlib.Core.List.{List}
-use Prim.Native.Nat.{ℕ, ◌+◌, ◌≤◌, ◌<◌}
+use Rattle.std.proofs.Common.{◌≡◌, ℕ, zero, suc, ◌+◌, ◌≤◌, ◌<◌, List, get_or, sym, subst, ◌∙◌, arith, ext_get_or}
 use native.Mathlib.Decide.{dec_le}
-use native.Mathlib.Omega.{arith}
-use lib.ListN.{length, get_or, set, length-set}
-use lib.Seq.{ext_get_or, get_or-set_same, get_or-set_other}
+use Rattle.std.specs.Fn.{Called, Mut}
+use Rattle.std.specs.Array.{IsFromFnResultFrom, IsFromFnResult}
 use Rattle.host_equal.specs.Described.{list_of}
 use Rattle.host_equal.proofs.Windows.{length-list_of, get_or-list_of}
 
-pub record Filling {A : Type 0} (d : A) (f : ℕ → A) (n : ℕ) (out : List A) (i : ℕ) : Type 0 where
-  pub most : i ≤ n
-  pub long : length out ≡ n
-  pub filled : (k : ℕ) → k < i → get_or out k d ≡ f k
-
-pub filling-start : {A : Type 0} (d : A) (f : ℕ → A) (n : ℕ) (out : List A) → length out ≡ n → Filling d f n out 0
-filling-start d f n out e =
-    record { most = omega arith; long = e; filled = λ k h. absurd (omega (arith, h)) }
-
-pub filling-turn : {A : Type 0} {d : A} {f : ℕ → A} {n : ℕ} {out : List A} {i : ℕ} → Filling d f n out i → (x : A)
-    → i < n → x ≡ f i → Filling d f n (set out i x) (i + 1)
-filling-turn {A} {d} {f} {n} {out} {i} g x h e =
-    record {
-      most = omega (arith, h);
-      long = length-set out i x ∙ g.long;
-      filled = λ k lt. go k (dec_le i k) lt;
-    }
-  where
-    go : (k : ℕ) → Dec (i ≤ k) → k < i + 1 → get_or (set out i x) k d ≡ f k
-    go k (yes m) lt =
-        let same : k ≡ i = omega (arith, m, lt) in
-        rw same (get_or-set_same out i x d (omega (arith, h, g.long)) ∙ e)
-    go k (no m) lt = get_or-set_other out i k x d (λ q. m (omega (arith, q))) ∙ g.filled k (omega (arith, m))
-
-pub filling-done : {A : Type 0} {d : A} {f : ℕ → A} {n : ℕ} {out : List A} {i : ℕ} → Filling d f n out i → n ≤ i
-    → out ≡ list_of n f
-filling-done {A} {d} {f} {n} {out} {i} g h =
-    ext_get_or d out (list_of n f) (g.long ∙ sym (length-list_of n f))
+-- where no call changes the closure, the array is the list of the values that the calls give
+pub filled_same : {F A : Type 0} (g : Mut F (ℕ × Unit {0}) A) (d : A) (value : ℕ → A) (f : F) (n : ℕ)
+    → ((i : ℕ) (y : A) (q : F) → i < n → Called g f (i, tt) y q → (y ≡ value i) × (q ≡ f))
+    → (ys : List A) → IsFromFnResult g f ys n → ys ≡ list_of n value
+filled_same {F} {A} g d value f n gives ys made =
+    ext_get_or d ys (list_of n value) (made.long ∙ sym (length-list_of n value))
     (λ k lt.
-    let near : k < n = omega (arith, lt, g.long) in
-    g.filled k (omega (arith, near, h)) ∙ sym (get_or-list_of n f d k near))
+    let near : k < n = omega (arith, lt, made.long) in
+    each n 0 (omega arith) made.each k (omega arith) (omega (arith, near))
+    ∙ sym (get_or-list_of n value d k near))
+  where
+    each : (m i : ℕ) → i + m ≤ n → IsFromFnResultFrom g f ys i m → (k : ℕ) → i ≤ k → k < i + m
+        → get_or ys k d ≡ value k
+    each zero i room r k low high = absurd (omega arith)
+    each (suc m) i room r k low high =
+        go (dec_le k i)
+        (λ on. each m (i + 1) (omega arith) (subst (λ (p : F). IsFromFnResultFrom g p ys (i + 1) m) one.1 r.4) k on
+        (omega arith))
+      where
+        one : (r.1 ≡ value i) × (r.0 ≡ f)
+        one = gives i r.1 r.0 (omega arith) r.3
+
+        go : Dec (k ≤ i) → (i + 1 ≤ k → get_or ys k d ≡ value k) → get_or ys k d ≡ value k
+        go (yes here) later =
+            let e : k ≡ i = omega arith in
+            rw e (r.2.1 d ∙ one.0)
+        go (no on) later = later (omega arith)

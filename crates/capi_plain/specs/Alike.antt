@@ -1,9 +1,8 @@
 -- The claim for callers in C: the same calls on an lw_host and on an lw_plain, from words that are described alike,
 -- return the same numbers, write the same buffers and memory, and leave words that are described alike, after every
 -- call.
-use Rattle.std.specs.Prelude.{ℕ, ◌^◌, ◌<◌, ◌≡◌, List, [], ◌∷◌, map, get_or}
+use Rattle.std.specs.Prelude.{ℕ, ◌^◌, ◌<◌, ◌≡◌, List, [], ◌∷◌, map, get_or, Option}
 use Rattle.octets.specs.Octets.{Bytes}
-use Rattle.host.specs.declared.Acknowledgement.{Acknowledgement}
 use Rattle.host.specs.declared.Answer.{Answer}
 use Rattle.host.specs.declared.Pair.{Pair}
 use Rattle.host.specs.Host as first
@@ -57,7 +56,7 @@ answer_shows a memory = record {
   memory = memory;
 }
 
-abbrev pub due_shows : Acknowledgement → List ℕ → List ℕ → Shown
+abbrev pub due_shows : Option (List ℕ) → List ℕ → List ℕ → Shown
 due_shows a buffer memory = record { returned = due_number a; written = written_where_due a buffer; memory = memory }
 
 -- ---- what the functions promise

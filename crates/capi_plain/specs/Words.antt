@@ -1,8 +1,7 @@
 -- The plain host's state in 228 words: own ID, peer ID, next frame and lowest transaction; a word for each of 64 marks
 -- of frames and 32 of transactions, set where it is not 0; and four words for each place of the table. Any words are a
 -- state: of a number's word what does not fit its field is not looked at.
-use Rattle.std.specs.Prelude.{ℕ, ◌+◌, ◌-◌, ◌*◌, ◌/◌, ◌%◌, Bool, false, cond, not, List, eqb, ltb, get_or}
-use Rattle.host.specs.declared.Acknowledgement.{Acknowledgement}
+use Rattle.std.specs.Prelude.{ℕ, ◌+◌, ◌-◌, ◌*◌, ◌/◌, ◌%◌, Bool, false, cond, not, List, eqb, ltb, get_or, Option}
 use Rattle.host.specs.declared.Open.{Open}
 use Rattle.host.specs.Host.{took_effect, answer_of}
 use Rattle.host_plain.specs.declared.PlainPair.{PlainPair}
@@ -74,6 +73,6 @@ left_words w r = cond (took_effect r.answer) (words_of r.pair) w
 -- ---- acknowledging
 
 -- The acknowledgement that an answer calls for whose words are lent: its kind, number and run count.
-abbrev pub acknowledgement : List ℕ → List ℕ → ℕ → Acknowledgement
+abbrev pub acknowledgement : List ℕ → List ℕ → ℕ → Option (List ℕ)
 acknowledgement w answer num =
     acknowledgement_of (plain_of w) (answer_of (word answer 0) (word answer 1) (word answer 7)) num

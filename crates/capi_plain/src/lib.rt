@@ -3,7 +3,7 @@
 // state. It promises the words, the answer and the memory by the plain host's own definitions (specs/Words.antt).
 #![tactic(auto)]
 
-ghost use Rattle.std.specs.Prelude.{◌≡◌, ◌<◌, get_or};
+ghost use Rattle.std.specs.Prelude.{◌≡◌, ◌+◌, ◌<◌, ◌≤◌, get_or};
 ghost use Rattle.host.specs.Host.{answer_words};
 ghost use Rattle.host_answer.specs.Due.{due_number, written_where_due};
 ghost use Rattle.host_plain.specs.Plain.{opened_of};
@@ -27,29 +27,16 @@ use seq::{FrameNo, TransNo};
 
 // ---- a state read from words
 
-// The 64 marks of frames.
-fn accepted_of(w: &[u64; 228]) -> [bool; 64]
-    ensures { result ≡ marks_from 4 64 w.now }
+// Marks that each have a word, from start on.
+fn marks_from<const N: usize>(w: &[u64; 228], start: usize) -> [bool; N]
+    requires { start + N ≤ 228 }
+    ensures { result ≡ marks_from start N w.now }
 {
-    let mut marks = [false; 64];
-    for i in 0..64usize {
-        marks[i] = w[4 + i] != 0;
-    }
-    marks
-}
-
-// The 32 marks of transactions.
-fn closed_of(w: &[u64; 228]) -> [bool; 32]
-    ensures { result ≡ marks_from 68 32 w.now }
-{
-    let mut marks = [false; 32];
-    for i in 0..32usize {
-        marks[i] = w[68 + i] != 0;
-    }
-    marks
+    std::array::from_fn(|i| w[start + i] != 0)
 }
 
 // An entry of the table.
+#[tactic(auto, unfolding(crate::specs::Words::entry_at))]
 fn entry_of(w: &[u64; 228], i: usize) -> Open
     requires { i < 32 }
     ensures { result ≡ entry_at w.now i }
@@ -66,93 +53,71 @@ fn entry_of(w: &[u64; 228], i: usize) -> Open
 fn table_of(w: &[u64; 228]) -> [Open; 32]
     ensures { result ≡ table_of w.now }
 {
-    let mut table = [host::FREE; 32];
-    for i in 0..32usize {
-        table[i] = entry_of(w, i);
-    }
-    table
+    std::array::from_fn(|i| entry_of(w, i))
 }
 
 // The state that the words hold.
 fn plain_of(w: &[u64; 228]) -> PlainPair
     ensures { result ≡ plain_of w.now }
 {
-    let frames = PlainFrames {
-        next: FrameNo((w[2] % 65536) as u16),
-        accepted: accepted_of(w),
-    };
-    let transactions = PlainTransactions {
-        lowest: TransNo((w[3] % 4294967296) as u32),
-        closed: closed_of(w),
-        table: table_of(w),
-    };
     PlainPair {
         own: (w[0] % 65536) as u16,
         peer: (w[1] % 65536) as u16,
-        frames,
-        transactions,
+        frames: PlainFrames {
+            next: FrameNo((w[2] % 65536) as u16),
+            accepted: marks_from(w, 4),
+        },
+        transactions: PlainTransactions {
+            lowest: TransNo((w[3] % 4294967296) as u32),
+            closed: marks_from(w, 68),
+            table: table_of(w),
+        },
     }
 }
 
 // ---- words of a state
 
-fn head_word(q: PlainPair, i: usize) -> u64
-    ensures { result ≡ head_word q i }
+#[tactic(auto, unfolding(crate::specs::Words::head_word))]
+fn head_word(q: &PlainPair, i: usize) -> u64
+    ensures { result ≡ head_word q.now i }
 {
-    if i == 0 {
-        return q.own as u64;
+    match i {
+        0 => u64::from(q.own),
+        1 => u64::from(q.peer),
+        2 => u64::from(q.frames.next.0),
+        _ => u64::from(q.transactions.lowest.0),
     }
-    if i == 1 {
-        return q.peer as u64;
-    }
-    if i == 2 {
-        return q.frames.next.0 as u64;
-    }
-    q.transactions.lowest.0 as u64
 }
 
+#[tactic(auto, unfolding(crate::specs::Words::entry_word))]
 fn entry_word(o: Open, k: usize) -> u64
     ensures { result ≡ entry_word o k }
 {
-    if k == 0 {
-        return o.address as u64;
+    match k {
+        0 => u64::from(o.address),
+        1 => u64::from(o.value),
+        2 => u64::from(o.count),
+        _ => u64::from(o.received),
     }
-    if k == 1 {
-        return o.value as u64;
-    }
-    if k == 2 {
-        return o.count as u64;
-    }
-    o.received as u64
 }
 
-fn word_at(q: PlainPair, i: usize) -> u64
+#[tactic(auto, unfolding(crate::specs::Words::word_at))]
+fn word_at(q: &PlainPair, i: usize) -> u64
     requires { i < 228 }
-    ensures { result ≡ word_at q i }
+    ensures { result ≡ word_at q.now i }
 {
-    if i < 4 {
-        return head_word(q, i);
+    match i {
+        0..4 => head_word(q, i),
+        4..68 => u64::from(q.frames.accepted[i - 4]),
+        68..100 => u64::from(q.transactions.closed[i - 68]),
+        _ => entry_word(q.transactions.table[(i - 100) / 4], (i - 100) % 4),
     }
-    let frames = q.frames;
-    if i < 68 {
-        return frames.accepted[i - 4] as u64;
-    }
-    let transactions = q.transactions;
-    if i < 100 {
-        return transactions.closed[i - 68] as u64;
-    }
-    let o = transactions.table[(i - 100) / 4];
-    entry_word(o, (i - 100) % 4)
 }
 
-fn words_of(q: PlainPair) -> [u64; 228]
-    ensures { result ≡ words_of q }
+fn words_of(q: &PlainPair) -> [u64; 228]
+    ensures { result ≡ words_of q.now }
 {
-    let mut words = [0u64; 228];
-    for i in 0..228usize {
-        words[i] = word_at(q, i);
-    }
-    words
+    std::array::from_fn(|i| word_at(q, i))
 }
 
 // ---- for C
@@ -164,9 +129,8 @@ pub extern "C" fn lw_raw_plain_open(words: &mut [u64; 228], own: u16, peer: u16)
     ensures words_after { words.new ≡ words_of (opened_of own peer).pair }
 {
     let opened = host_plain::open_pair(own, peer);
-    let pair = opened.pair;
-    *words = words_of(pair);
-    opened.refusal.number as u32
+    *words = words_of(&opened.pair);
+    u32::from(opened.refusal.number)
 }
 
 // Receives a frame, and answers the kind of the answer, whose words are written. The state's words change only where
@@ -191,8 +155,7 @@ pub extern "C" fn lw_raw_plain_receive(
     let a = stepped.answer;
     let kind = host_answer::kind_of(a);
     if kind == 1 {
-        let pair = stepped.pair;
-        *words = words_of(pair);
+        *words = words_of(&stepped.pair);
     }
     host_answer::put_answer(answer, a);
     kind
@@ -211,10 +174,7 @@ pub extern "C" fn lw_raw_plain_acknowledge(
     ensures frame_after { frame.new
         ≡ written_where_due (acknowledgement words.now answer.now number) frame.old }
 {
-    let kind = answer[0];
-    let answered = answer[1];
-    let run = answer[7];
-    let a = host_answer::answer_of(kind, answered, run);
+    let a = host_answer::answer_of(answer[0], answer[1], answer[7]);
     let ack = host_plain::acknowledge(plain_of(words), a, FrameNo(number));
     host_answer::put_acknowledgement(frame, ack)
 }

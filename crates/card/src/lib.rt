@@ -10,7 +10,7 @@ use seq::{FrameNo, TransNo};
 
 // The sealed frames. Bit i of acked stands for the frame base + i and is set where that is acknowledged. The frame n is
 // in slot n modulo 64 and has the length that sizes gives there.
-#[derive(Clone, Copy)]
+#[derive(Clone, Copy, Debug, PartialEq, Eq, Hash)]
 pub struct SendWindow {
     pub acked: u64,
     pub next: FrameNo,
@@ -20,7 +20,7 @@ pub struct SendWindow {
 
 // A transaction as the card sends it: its terms, how many of its messages are added, and the number of the frame that
 // the latest of them went into.
-#[derive(Clone, Copy)]
+#[derive(Clone, Copy, Debug, PartialEq, Eq, Hash)]
 pub struct Sending {
     pub address: u32,
     pub value: u32,
@@ -31,7 +31,7 @@ pub struct Sending {
 
 // The transactions. next is the number that the next opening gives, lowest the lowest unfinished one. Bit i of finished
 // stands for the transaction lowest + i.
-#[derive(Clone, Copy)]
+#[derive(Clone, Copy, Debug, PartialEq, Eq, Hash)]
 pub struct Sendings {
     pub next: TransNo,
     pub lowest: TransNo,
@@ -40,7 +40,7 @@ pub struct Sendings {
 }
 
 // used is the length of the frame being built, 0 where there is none, and last the offset of its last message header.
-#[derive(Clone, Copy)]
+#[derive(Clone, Copy, Debug, PartialEq, Eq, Hash)]
 pub struct Card {
     pub own: u16,
     pub peer: u16,
@@ -51,21 +51,22 @@ pub struct Card {
     pub sendings: Sendings,
 }
 
-// What a step makes of a card. Refusal 0 is none.
-#[derive(Clone, Copy)]
+// What a step makes of a card. Refusal 0 is none. This record and the two below are those of the definitions in
+// specs/Card.antt, on which the theorems stand: no function answers them, so that the refusal stays a number.
+#[derive(Clone, Copy, Debug, PartialEq, Eq, Hash)]
 pub struct Stepped {
     pub card: Card,
     pub refusal: u8,
 }
 
-#[derive(Clone, Copy)]
+#[derive(Clone, Copy, Debug, PartialEq, Eq, Hash)]
 pub struct TransOpened {
     pub card: Card,
     pub refusal: u8,
     pub trans: TransNo,
 }
 
-#[derive(Clone, Copy)]
+#[derive(Clone, Copy, Debug, PartialEq, Eq, Hash)]
 pub struct Sealed {
     pub card: Card,
     pub refusal: u8,
@@ -73,16 +74,11 @@ pub struct Sealed {
 }
 
 // Whether a frame limit is one, and the slot buffer has 64 slots of it.
+#[tactic(auto, unfolding(crate::specs::Card::fits))]
 pub fn is_fitting(limit: usize, slots: &[u8]) -> bool
     ensures { result ≡ fits limit slots.now }
 {
-    if limit < 34 {
-        return false;
-    }
-    if wire::FRAME_MOST < limit {
-        return false;
-    }
-    slots.len() == 64 * limit
+    34 <= limit && limit <= wire::FRAME_MOST && slots.len() == 64 * limit
 }
 
 // Where the slot of a frame starts, in a buffer of slots of limit bytes: far below what a word holds.

@@ -7,30 +7,35 @@ ghost use Rattle.card.specs.Window.{acknowledged_by};
 ghost use Rattle.card_words.specs.Words.{card_of};
 ghost use Rattle.card_acks.specs.Covering.{covered_by};
 
-use bitmap::word64;
-use seq::FrameNo;
+use bitmap::Bitmap;
+use seq::{FrameNo, Serial};
 
-// Marks of the frames from base on that are among the count numbers from start on: a run of them, from the distance of
-// start on, and where that run wraps to base, one from base on too.
-fn covered(base: FrameNo, start: FrameNo, count: u8) -> u64
-    ensures { result ≡ marks_of 64 (covered_by base.0 start.0 count) }
+// The frames that an acknowledgement names: the count numbers from start on.
+#[derive(Clone, Copy, Debug, PartialEq, Eq, Hash)]
+pub(crate) struct Range {
+    pub start: FrameNo,
+    pub count: u8,
+}
+
+// Marks of the frames from base on that are in a range: a run of them, from the distance of its start on, and where
+// that run wraps to base, one from base on too.
+fn covered(base: FrameNo, range: Range) -> u64
+    ensures { result ≡ marks_of 64 (covered_by base.0 range.start.0 range.count) }
 {
-    let first = start.distance(base) as u32;
-    let end = first + count as u32;
-    let run = word64::between(first, end);
+    let first = range.start.distance(base) as u32;
+    let end = first + range.count as u32;
+    let run = u64::between(first, end);
     if end <= 65536 {
         return run;
     }
-    run | word64::below(end - 65536)
+    run | u64::below(end - 65536)
 }
 
-// Marks of the frames that are acknowledged once the count numbers from start on are. Only sealed ones are.
-pub(crate) fn acknowledged_marks(words: &[u64], start: FrameNo, count: u8) -> u64
-    ensures { result ≡ marks_of 64 (acknowledged_by (card_of words.now).window start.0 count) }
+// Marks of the frames that are acknowledged once a range is. Only sealed ones are.
+pub(crate) fn acknowledged_marks(words: &[u64], range: Range) -> u64
+    ensures { result ≡ marks_of 64 (acknowledged_by (card_of words.now).window range.start.0 range.count) }
 {
     let h = card_words::head_of(words);
-    let next = h.next;
-    let base = h.base;
-    let sealed = word64::below(next.distance(base) as u32);
-    (h.acked | covered(base, start, count)) & sealed
+    let sealed = u64::below(h.unreleased() as u32);
+    (h.acked | covered(h.base, range)) & sealed
 }

@@ -2,35 +2,29 @@
 // lent to be read; the slot buffer is lent for its length. Assumes nothing of words, slots and data. It promises what
 // card/specs/Card.antt refuses for the card that the words hold.
 ghost use Rattle.std.specs.Prelude.{◌≡◌, ◌&&◌, ◌+◌, eqb, ltb, length};
+ghost use Rattle.refusal.specs.Reason.{refusal_number};
 ghost use Rattle.wire.specs.Format.{next_header};
 ghost use Rattle.card.specs.Sendings.{takes};
 ghost use Rattle.card.specs.Card.{add_refusal};
 ghost use Rattle.card_words.specs.Words.{card_of};
 
-use seq::TransNo;
+use refusal::Reason;
+use seq::{Serial, TransNo};
 
 // Whether a message of transaction t may be added.
 fn is_taking(words: &[u64], t: TransNo) -> bool
     ensures { result ≡ takes (card_of words.now).sendings t.0 }
 {
     let h = card_words::head_of(words);
-    let next = h.upcoming;
-    let lowest = h.lowest;
-    if next.distance(lowest) <= t.distance(lowest) {
-        return false;
-    }
     let e = card_words::sending_at(words, t);
-    e.added < wire::messages_needed(e.count)
+    t.distance(h.lowest) < h.opened() && e.added < wire::messages_needed(e.count)
 }
 
 // Whether there is data for the one message of a transaction of count 0.
 fn is_data_for_bare(count: u16, payload: &[u8]) -> bool
     ensures { result ≡ (eqb count 0 && ltb 0 (length payload.now)) }
 {
-    if count != 0 {
-        return false;
-    }
-    0 < payload.len()
+    count == 0 && !payload.is_empty()
 }
 
 // Where the header of the next message goes, past the used bytes of the frame being built.
@@ -46,33 +40,33 @@ fn is_past_limit(limit: u16, used: u16, payload: &[u8]) -> bool
 {
     let most = limit as usize;
     let start = header_offset(used) + wire::MESSAGE_HEADER;
-    if most < start {
-        return true;
-    }
-    most - start < payload.len()
+    most < start || most - start < payload.len()
 }
 
-// The refusal of adding a message of transaction t with this data, 0 for none. The slots are lent for their length.
-pub(crate) fn add_refusal(words: &[u64], slots: &[u8], t: TransNo, payload: &[u8]) -> u8
-    ensures { result ≡ add_refusal (card_of words.now) slots.now t.0 payload.now }
+// Refuses a message of transaction t with this data that may not be added. The slots are lent for their length.
+pub(crate) fn check_adding(
+    words: &[u64],
+    slots: &[u8],
+    t: TransNo,
+    payload: &[u8],
+) -> Result<(), Reason>
+    ensures { refusal_number result ≡ add_refusal (card_of words.now) slots.now t.0 payload.now }
 {
     let h = card_words::head_of(words);
     if !card::is_fitting(h.limit as usize, slots) {
-        return refusal::BAD_LIMIT_OR_SLOTS;
+        return Err(Reason::BadLimitOrSlots);
     }
     if !is_taking(words, t) {
-        return refusal::NO_MESSAGE_LEFT;
+        return Err(Reason::NoMessageLeft);
     }
     if is_data_for_bare(card_words::sending_at(words, t).count, payload) {
-        return refusal::DATA_FOR_BARE;
+        return Err(Reason::DataForBare);
     }
-    let next = h.next;
-    let base = h.base;
-    if 64 <= next.distance(base) {
-        return refusal::FRAME_WINDOW_FULL;
+    if 64 <= h.unreleased() {
+        return Err(Reason::FrameWindowFull);
     }
     if is_past_limit(h.limit, h.used, payload) {
-        return refusal::FRAME_FULL;
+        return Err(Reason::FrameFull);
     }
-    0
+    Ok(())
 }

@@ -9,6 +9,7 @@ pub mod number;
 pub mod opening;
 
 ghost use Rattle.std.specs.Prelude.{◌≡◌, true, cond, [], ◌+◌, ◌≤◌, eqb, length};
+ghost use Rattle.refusal.specs.Reason.{refusal_number};
 ghost use Rattle.wire.specs.Format.{carrying, message_header};
 ghost use Rattle.wire.specs.Writing.{first_message, next_message};
 ghost use Rattle.card.specs.Sendings.{takes};
@@ -17,8 +18,9 @@ ghost use Rattle.card_words.specs.Words.{card_of, Becomes, Steps, or_other_lengt
 ghost use Rattle.card_build.specs.Building.{added_in};
 
 use card::Sending;
-use card_words::update;
-use seq::{FrameNo, TransNo};
+use card_words::{CARD_WORDS, Head, update};
+use refusal::Reason;
+use seq::TransNo;
 use wire::MessageHeader;
 
 // ---- writing a message, and counting it
@@ -37,27 +39,18 @@ fn header_of(words: &[u64], t: TransNo, at: u32) -> MessageHeader
     }
 }
 
-// Writes a message into a slot: the first one with the frame's header, from one ID to another, a later one after those
-// so far.
-fn write_in_slot(
-    slot: &mut [u8],
-    to: u16,
-    from: u16,
-    number: FrameNo,
-    used: u16,
-    last: u16,
-    h: MessageHeader,
-    payload: &[u8],
-)
-    ensures { slot.new ≡ cond (eqb used 0)
-        (first_message slot.old to from number.0 (carrying h payload.now))
-        (next_message slot.old used last (carrying h payload.now)) }
+// Writes a message into the slot of the frame being built: the first one with the frame's header, a later one after
+// those so far.
+fn write_in_slot(slot: &mut [u8], c: Head, h: MessageHeader, payload: &[u8])
+    ensures { slot.new ≡ cond (eqb c.used 0)
+        (first_message slot.old c.peer c.own c.next.0 (carrying h payload.now))
+        (next_message slot.old c.used c.last (carrying h payload.now)) }
 {
-    if used == 0 {
-        wire_write::write_first(slot, to, from, number, h, payload);
-        return;
+    if c.used == 0 {
+        wire_write::write_first(slot, c.peer, c.own, c.next, h, payload);
+    } else {
+        wire_write::write_next(slot, c.used as usize, c.last as usize, h, payload);
     }
-    wire_write::write_next(slot, used as usize, last as usize, h, payload);
 }
 
 // Writes a message that has room into the slot of the frame being built, which is lent to the frame writer.
@@ -70,16 +63,7 @@ fn write_message(words: &[u64], slots: &mut [u8], t: TransNo, at: u32, payload: 
     let start = card::slot_start(c.limit, c.next);
     let end = start + c.limit as usize;
     let h = header_of(words, t, at);
-    write_in_slot(
-        &mut slots[start..end],
-        c.peer,
-        c.own,
-        c.next,
-        c.used,
-        c.last,
-        h,
-        payload,
-    );
+    write_in_slot(&mut slots[start..end], c, h, payload);
 }
 
 // Counts a message that has room: in its transaction, which takes it, and in the frame being built.
@@ -90,45 +74,48 @@ fn count_message(words: &mut [u64], t: TransNo, payload: &[u8])
         (with_message (card_of words.old) t.0 payload.now) }
 {
     let h = card_words::head_of(words);
-    let frame = h.next;
     let e = card_words::sending_at(words, t);
     update::put_sending(
         words,
         t,
         Sending {
-            address: e.address,
-            value: e.value,
-            count: e.count,
             added: e.added + 1,
-            frame,
+            frame: h.next,
+            ..e
         },
     );
     let start = admit::header_offset(h.used);
-    let mut next = h;
-    next.used = (start + wire::MESSAGE_HEADER + payload.len()) as u16;
-    next.last = start as u16;
-    update::put_head(words, next);
+    update::put_head(
+        words,
+        Head {
+            used: (start + wire::MESSAGE_HEADER + payload.len()) as u16,
+            last: start as u16,
+            ..h
+        },
+    );
 }
 
 // ---- adding it
 
-// Adds one message of transaction t, with data for an address, to the frame being built, and answers the refusal, 0 for
-// none.
-pub fn add_message(words: &mut [u64], slots: &mut [u8], t: TransNo, at: u32, payload: &[u8]) -> u8
-    ensures value { result ≡ or_other_length words.old (add_message
+// Adds one message of transaction t, with data for an address, to the frame being built.
+pub fn add_message(
+    words: &mut [u64],
+    slots: &mut [u8],
+    t: TransNo,
+    at: u32,
+    payload: &[u8],
+) -> Result<(), Reason>
+    ensures refused { refusal_number result ≡ or_other_length words.old (add_message
         (card_of words.old) slots.old t.0 at payload.now).step.refusal }
-    ensures steps { Steps words.old words.new result
+    ensures steps { Steps words.old words.new (refusal_number result)
         (add_message (card_of words.old) slots.old t.0 at payload.now).step.card }
     ensures slots_after { slots.new ≡ added_in words.old slots.old t.0 at payload.now }
 {
-    if words.len() != card_words::CARD_WORDS {
-        return card_words::OTHER_LENGTH;
+    if words.len() != CARD_WORDS {
+        return Err(Reason::OtherLength);
     }
-    let refusal = admit::add_refusal(words, slots, t, payload);
-    if refusal != 0 {
-        return refusal;
-    }
+    admit::check_adding(words, slots, t, payload)?;
     write_message(words, slots, t, at, payload);
     count_message(words, t, payload);
-    0
+    Ok(())
 }

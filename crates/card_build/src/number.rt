@@ -1,57 +1,40 @@
 // The two steps that give a number: opening a transaction, and sealing the frame being built. The card is in words that
 // are lent and changed in place; no slot is written. Assumes nothing of words and slots. It promises what
 // card/specs/Card.antt says of the card that the words hold, and that a refused step changes no word.
-ghost use Rattle.std.specs.Prelude.{◌≡◌};
+ghost use Rattle.std.specs.Prelude.{◌≡◌, IfOk};
+ghost use Rattle.refusal.specs.Reason.{refusal_number};
 ghost use Rattle.card.specs.Card.{open_transaction, seal_refusal, seal_frame};
 ghost use Rattle.card_words.specs.Words.{card_of, Steps};
 ghost use Rattle.card_build.specs.Numbering.{opened_in, sealed_in};
 
 use card::Sending;
-use card_words::update;
-use seq::{FrameNo, TransNo};
-
-// The number of a transaction just opened; 0 where that is refused. Refusal 0 is none.
-#[derive(Clone, Copy)]
-pub struct OpenedTransaction {
-    pub refusal: u8,
-    pub trans: TransNo,
-}
-
-// The number of a frame just sealed; 0 where that is refused.
-#[derive(Clone, Copy)]
-pub struct SealedFrame {
-    pub refusal: u8,
-    pub number: FrameNo,
-}
+use card_words::{CARD_WORDS, Head, update};
+use refusal::Reason;
+use seq::{FrameNo, Serial, TransNo};
 
 // ---- opening a transaction
 
-// Opens a transaction of count data messages whose completion writes value at address.
+// Opens a transaction of count data messages whose completion writes value at address, and gives its number.
 pub fn open_transaction(
     words: &mut [u64],
     count: u16,
     address: u32,
     value: u32,
-) -> OpenedTransaction
-    ensures value { result ≡ opened_in words.old count address value }
-    ensures steps { Steps words.old words.new result.refusal
+) -> Result<TransNo, Reason>
+    ensures refused { refusal_number result ≡ (opened_in words.old count address value).refusal }
+    ensures opened { IfOk result (λ trans. trans
+        ≡ (opened_in words.old count address value).trans) }
+    ensures steps { Steps words.old words.new (refusal_number result)
         (open_transaction (card_of words.old) count address value).card }
 {
-    if words.len() != card_words::CARD_WORDS {
-        return OpenedTransaction {
-            refusal: card_words::OTHER_LENGTH,
-            trans: TransNo(0),
-        };
+    if words.len() != CARD_WORDS {
+        return Err(Reason::OtherLength);
     }
     let h = card_words::head_of(words);
-    let trans = h.upcoming;
-    let lowest = h.lowest;
-    if 32 <= trans.distance(lowest) {
-        return OpenedTransaction {
-            refusal: refusal::TRANSACTION_WINDOW_FULL,
-            trans: TransNo(0),
-        };
+    if 32 <= h.opened() {
+        return Err(Reason::TransactionWindowFull);
     }
+    let trans = h.upcoming;
     update::put_sending(
         words,
         trans,
@@ -63,54 +46,54 @@ pub fn open_transaction(
             frame: FrameNo(0),
         },
     );
-    let mut next = h;
-    next.upcoming = trans.advance(1);
-    update::put_head(words, next);
-    OpenedTransaction { refusal: 0, trans }
+    update::put_head(
+        words,
+        Head {
+            upcoming: trans.advance(1),
+            ..h
+        },
+    );
+    Ok(trans)
 }
 
 // ---- sealing
 
-// The refusal of sealing the frame being built, 0 for none.
-fn seal_refusal(words: &[u64], slots: &[u8]) -> u8
-    ensures { result ≡ seal_refusal (card_of words.now) slots.now }
+// Refuses slots that don't fit, and a frame with nothing in it.
+fn check_sealing(words: &[u64], slots: &[u8]) -> Result<(), Reason>
+    ensures { refusal_number result ≡ seal_refusal (card_of words.now) slots.now }
 {
     let h = card_words::head_of(words);
     if !card::is_fitting(h.limit as usize, slots) {
-        return refusal::BAD_LIMIT_OR_SLOTS;
+        return Err(Reason::BadLimitOrSlots);
     }
     if h.used == 0 {
-        return refusal::NOTHING_TO_SEAL;
+        return Err(Reason::NothingToSeal);
     }
-    0
+    Ok(())
 }
 
-// Seals the frame being built. The slots are lent for their length.
-pub fn seal_frame(words: &mut [u64], slots: &[u8]) -> SealedFrame
-    ensures value { result ≡ sealed_in words.old slots.now }
-    ensures steps { Steps words.old words.new result.refusal
+// Seals the frame being built, and gives its number. The slots are lent for their length.
+pub fn seal_frame(words: &mut [u64], slots: &[u8]) -> Result<FrameNo, Reason>
+    ensures refused { refusal_number result ≡ (sealed_in words.old slots.now).refusal }
+    ensures sealed { IfOk result (λ number. number ≡ (sealed_in words.old slots.now).number) }
+    ensures steps { Steps words.old words.new (refusal_number result)
         (seal_frame (card_of words.old) slots.now).card }
 {
-    if words.len() != card_words::CARD_WORDS {
-        return SealedFrame {
-            refusal: card_words::OTHER_LENGTH,
-            number: FrameNo(0),
-        };
+    if words.len() != CARD_WORDS {
+        return Err(Reason::OtherLength);
     }
-    let reason = seal_refusal(words, slots);
+    check_sealing(words, slots)?;
     let h = card_words::head_of(words);
-    if reason != 0 {
-        return SealedFrame {
-            refusal: reason,
-            number: FrameNo(0),
-        };
-    }
     let number = h.next;
     update::put_size(words, number, h.used);
-    let mut next = h;
-    next.used = 0;
-    next.last = 0;
-    next.next = number.advance(1);
-    update::put_head(words, next);
-    SealedFrame { refusal: 0, number }
+    update::put_head(
+        words,
+        Head {
+            used: 0,
+            last: 0,
+            next: number.advance(1),
+            ..h
+        },
+    );
+    Ok(number)
 }

@@ -2,54 +2,44 @@
 // for its length. It promises the refusal, by the decoding of card_words/specs/Words.antt which card the words hold
 // then, and that a buffer of another length is left as it was.
 ghost use Rattle.std.specs.Prelude.{◌≡◌};
+ghost use Rattle.refusal.specs.Reason.{refusal_number};
 ghost use Rattle.card.specs.Card.{card_refusal, open_card};
 ghost use Rattle.card_words.specs.Words.{Leaves, or_other_length};
-ghost use Rattle.card_build.specs.Clearing.{Zeros};
 
-use card_words::{CARD_WORDS, Head, OTHER_LENGTH, update};
+use card_words::{CARD_WORDS, Head, update};
+use refusal::Reason;
 use seq::{FrameNo, TransNo};
 
-// Makes every word 0.
-fn clear(w: &mut [u64])
-    ensures { Zeros w.new }
+// Refuses an ID of 0, and a frame limit that is none or doesn't fit the slots.
+#[tactic(auto, unfolding(card::specs::Card::card_refusal))]
+fn check_opening(own: u16, peer: u16, limit: usize, slots: &[u8]) -> Result<(), Reason>
+    ensures { refusal_number result ≡ card_refusal own peer limit slots.now }
 {
-    let mut i = 0;
-    while i < w.len() {
-        w[i] = 0;
-        i += 1;
-    }
-}
-
-// The refusal of opening a card with a frame limit, 0 for none.
-fn card_refusal(own: u16, peer: u16, limit: usize, slots: &[u8]) -> u8
-    ensures { result ≡ card_refusal own peer limit slots.now }
-{
-    if own == 0 {
-        return refusal::ID_ZERO;
-    }
-    if peer == 0 {
-        return refusal::ID_ZERO;
+    if own == 0 || peer == 0 {
+        return Err(Reason::IdZero);
     }
     if !card::is_fitting(limit, slots) {
-        return refusal::BAD_LIMIT_OR_SLOTS;
+        return Err(Reason::BadLimitOrSlots);
     }
-    0
+    Ok(())
 }
 
-// Opens a card with a frame limit in these words, and answers the refusal, 0 for none. A refused opening leaves a card
-// with both IDs and the limit 0.
-pub fn open_card(w: &mut [u64], own: u16, peer: u16, limit: usize, slots: &[u8]) -> u8
-    ensures value { result ≡ or_other_length w.old (open_card own peer limit slots.now).refusal }
+// Opens a card with a frame limit in these words. A refused opening leaves a card with both IDs and the limit 0.
+pub fn open_card(
+    w: &mut [u64],
+    own: u16,
+    peer: u16,
+    limit: usize,
+    slots: &[u8],
+) -> Result<(), Reason>
+    ensures refused { refusal_number result ≡ or_other_length w.old (open_card own peer limit slots.now).refusal }
     ensures leaves { Leaves w.old w.new (open_card own peer limit slots.now).card }
 {
     if w.len() != CARD_WORDS {
-        return OTHER_LENGTH;
+        return Err(Reason::OtherLength);
     }
-    let refusal = card_refusal(own, peer, limit, slots);
-    clear(w);
-    if refusal != 0 {
-        return refusal;
-    }
+    w.fill(0);
+    check_opening(own, peer, limit, slots)?;
     update::put_head(
         w,
         Head {
@@ -66,5 +56,5 @@ pub fn open_card(w: &mut [u64], own: u16, peer: u16, limit: usize, slots: &[u8])
             finished: 0,
         },
     );
-    0
+    Ok(())
 }

@@ -6,7 +6,11 @@ use Rattle.card.specs.Window.{size_of}
 use Rattle.card.specs.Card.{slot_start, show_refusal, show_frame}
 use Rattle.card_words.specs.Words.{card_words, card_of, or_other_length}
 use Rattle.card_send.specs.declared.show.Part.{Part}
-use Rattle.card_send.specs.declared.show.Showing.{Showing}
+
+-- A showing: its refusal, 0 for none, and where the frame lies in the slots; no part where it is refused.
+pub record Showing : Type 0 where
+  pub refusal : ℕ
+  pub part : Part
 
 abbrev pub part_of : Part → List ℕ → List ℕ
 part_of p buffer = take p.len (drop p.offset buffer)

@@ -5,22 +5,20 @@
 pub mod update;
 
 ghost use Rattle.std.specs.Prelude.{◌≡◌};
+ghost use Rattle.seq.specs.Ring.{distance, frame_space, trans_space};
 ghost use Rattle.card.specs.Window.{size_of};
 ghost use Rattle.card.specs.Sendings.{sending_at};
 ghost use Rattle.card_words.specs.Words.{card_of, head_part};
 
 use card::Sending;
-use seq::{FrameNo, TransNo};
+use seq::{FrameNo, Serial, TransNo};
 
 // A card takes words of this length.
 pub const CARD_WORDS: usize = 85;
 
-// The answer to words of another length: no refusal of the rules.
-pub const OTHER_LENGTH: u8 = 255;
-
 // What a card holds beside the lengths of its frames and its transactions. upcoming is the number that the next opening
 // of a transaction gives.
-#[derive(Clone, Copy)]
+#[derive(Clone, Copy, Debug, PartialEq, Eq, Hash)]
 pub struct Head {
     pub own: u16,
     pub peer: u16,
@@ -33,6 +31,22 @@ pub struct Head {
     pub upcoming: TransNo,
     pub lowest: TransNo,
     pub finished: u32,
+}
+
+impl Head {
+    // How many sealed frames are not released.
+    pub fn unreleased(self) -> u16
+        ensures { result ≡ distance frame_space self.base.0 self.next.0 }
+    {
+        self.next.distance(self.base)
+    }
+
+    // How many transactions are opened from the lowest unfinished one on.
+    pub fn opened(self) -> u32
+        ensures { result ≡ distance trans_space self.lowest.0 self.upcoming.0 }
+    {
+        self.upcoming.distance(self.lowest)
+    }
 }
 
 pub fn head_of(w: &[u64]) -> Head

@@ -9,7 +9,8 @@ use crate::{CARD_WORDS, Head};
 use card::Sending;
 use seq::{FrameNo, TransNo};
 
-// Stores the first five words.
+// Stores the first five words. One by one: `copy_from_slice` of an array compares addresses at run time, and sealing and
+// opening a transaction took half as many instructions again with it.
 fn put_five(w: &mut [u64], a: u64, b: u64, c: u64, d: u64, e: u64)
     ensures { w.new ≡ sets w.old 0 (a ∷ b ∷ c ∷ d ∷ e ∷ []) }
 {

@@ -1,6 +1,6 @@
 -- One card and one host, and lists of calls on the two: what a list leaves, and what of it a plain book is shown.
 -- The two ends' steps are a parameter, so that a statement about lists can be made of right and of wrong ends.
-use Rattle.std.specs.Prelude.{ℕ, Bool, false, cond, not, List, [], ◌∷◌, ◌++◌, eqb, get_or}
+use Rattle.std.specs.Prelude.{ℕ, Bool, false, not, List, [], ◌∷◌, ◌++◌, eqb, get_or, Option, option_to_list}
 use Rattle.card.specs.declared.Card.{Card}
 use Rattle.card.specs.declared.Stepped.{Stepped}
 use Rattle.card.specs.declared.TransOpened.{TransOpened}
@@ -20,7 +20,6 @@ use Rattle.card.specs.Card.{
 use Rattle.host.specs.declared.Pair.{Pair}
 use Rattle.host.specs.declared.Opened.{Opened}
 use Rattle.host.specs.declared.Answer.{Answer}
-use Rattle.host.specs.declared.Acknowledgement.{Acknowledgement}
 use Rattle.host.specs.Host.{opened_of, Received, receive_of, acknowledgement_of}
 
 -- ---- the two ends
@@ -47,7 +46,7 @@ pub record CardEnd : Type 0 where
 pub record HostEnd : Type 0 where
   pub host_opening : ℕ → ℕ → Opened
   pub receiving : Pair → List ℕ → List ℕ → Received
-  pub acknowledging : Pair → Answer → ℕ → Acknowledgement
+  pub acknowledging : Pair → Answer → ℕ → Option (List ℕ)
 
 pub record Implementation : Type 0 where
   pub card_end : CardEnd
@@ -212,9 +211,7 @@ by_card w x r = record {
 
 -- The acknowledgement that an answer calls for, if it does. The host sends no messages, so that its number is 0.
 unfoldable pub acks_for : HostEnd → Pair → Answer → List (List ℕ)
-acks_for e p a =
-    let k = e.acknowledging p a 0 in
-    cond k.due (k.frame ∷ []) []
+acks_for e p a = option_to_list (e.acknowledging p a 0)
 
 unfoldable pub by_host : HostEnd → System → Event → Received → StepResult
 by_host e w x r = record {

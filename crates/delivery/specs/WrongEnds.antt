@@ -1,6 +1,6 @@
 -- Wrong ends: hosts and cards with one fault each, among them the buyer's older host. Nothing of this needs to be
 -- believed: the files of proofs/Wrong show that none of them meets demand 3, but for the card that adds nothing.
-use Rattle.std.specs.Prelude.{ℕ, suc, ◌%◌, Bool, cond, ◌||◌, ◌&&◌, List, [], ◌∷◌, eqb, leb, ltb, get_or, take, drop}
+use Rattle.std.specs.Prelude.{ℕ, suc, ◌%◌, Bool, cond, ◌||◌, ◌&&◌, List, [], ◌∷◌, eqb, leb, ltb, get_or, take, drop, Option, Some, None}
 use Rattle.std.proofs.lemmas.List.Edits.{sets}
 use Rattle.seq.specs.Ring.{distance, advance, frame_space, trans_space}
 use Rattle.bitmap.specs.Marks.{mark, leading}
@@ -12,7 +12,6 @@ use Rattle.host.specs.Terms.{free}
 use Rattle.host.specs.declared.Pair.{Pair}
 use Rattle.host.specs.declared.Answer.{Answer}
 use Rattle.host.specs.declared.Answer.TheVariants.{Accepted, Again, NoMessages, Refused}
-use Rattle.host.specs.declared.Acknowledgement.{Acknowledgement}
 use Rattle.host.specs.declared.Sums.{Sums}
 use Rattle.host.specs.Host.{
   Received,
@@ -43,7 +42,7 @@ abbrev pub Receiving : Type 0
 Receiving = Pair → List ℕ → List ℕ → Received
 
 abbrev pub Acknowledging : Type 0
-Acknowledging = Pair → Answer → ℕ → Acknowledgement
+Acknowledging = Pair → Answer → ℕ → Option (List ℕ)
 
 -- Another receiving at the host, another acknowledging, another step of the card.
 abbrev pub host_with : Receiving → Acknowledging → Implementation
@@ -188,10 +187,9 @@ never_completes h f m =
 
 -- It acknowledges one number too many: the one after the run.
 unfoldable pub acks_two : Acknowledging
-acks_two p a num = record {
-  due = ltb 0 (range_of a).count;
-  frame = ack_frame p.peer p.own num (range_of a).start.0 (suc (range_of a).count);
-}
+acks_two p a num =
+    let range = range_of a in
+    cond (ltb 0 range.count) (Some (ack_frame p.peer p.own num range.start.0 (suc range.count))) None
 
 -- Its answers carry another run: k says which, of the pair before the frame and after it, and of the frame's number.
 unfoldable pub with_run : ℕ → Answer → Answer

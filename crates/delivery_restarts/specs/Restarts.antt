@@ -5,8 +5,7 @@ use Rattle.std.proofs.Math.Option.{Option, none, some}
 use Rattle.std.proofs.Math.ListN.{get_elem?}
 use Rattle.host.specs.declared.Pair.{Pair}
 use Rattle.host.specs.declared.Opened.{Opened}
-use Rattle.host_stored.specs.declared.Stored.{Stored}
-use Rattle.host_stored.specs.Form.{stored_of, buffer_of, read_text}
+use Rattle.host_stored.specs.Form.{Stored, stored_of, buffer_of, read_text}
 use Rattle.delivery.specs.System.{
   Implementation,
   specified,

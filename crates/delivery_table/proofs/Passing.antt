@@ -9,6 +9,7 @@ use borrow.Author.Tests.{eq-eqb, le-ltb}
 use lib.Dec.{ltb}
 use lib.ListN.{length}
 use lib.Seq.{set-get_or}
+use Rattle.std.specs.Prelude.{None}
 use Rattle.wire.specs.Format.{frame_most}
 use Rattle.wire.specs.Reading.{destination, source}
 use Rattle.host.specs.declared.Pair.{Pair}
@@ -35,7 +36,7 @@ use Rattle.table.proofs.Calls.{
   reached-memory,
 }
 
-pub no-acks : (from to : ℕ) (a : Answer) → NoEffect a → (acknowledgement_from from to a 0).due ≡ false
+pub no-acks : (from to : ℕ) (a : Answer) → NoEffect a → acknowledgement_from from to a 0 ≡ None
 unfolding acknowledgement_from
 no-acks from to (Accepted n sums run) h = absurd h
 no-acks from to (Again n run) h = absurd h

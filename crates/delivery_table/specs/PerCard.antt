@@ -1,7 +1,7 @@
 -- Demand 3 for each card of a table: one watched card, the table with its memory, and whatever else is called on the
 -- table. Premises and guarantees are those of delivery/specs/Demand3.antt, over the card's region. The table's calls
 -- are a parameter.
-use Rattle.std.specs.Prelude.{ℕ, ◌+◌, ◌<◌, ◌≡◌, Bool, true, false, cond, not, ◌&&◌, List, [], ◌∷◌, ◌++◌, eqb, leb, get_or}
+use Rattle.std.specs.Prelude.{ℕ, ◌+◌, ◌<◌, ◌≡◌, Bool, true, false, not, ◌&&◌, List, [], ◌∷◌, ◌++◌, eqb, leb, get_or, option_to_list}
 use Rattle.seq.specs.Ring.{frame_space}
 use Rattle.host.specs.declared.Answer.{Answer}
 use Rattle.host.specs.Host.{fresh}
@@ -98,9 +98,7 @@ on_card v x =
 -- The acknowledgement that an answer calls for, if it does, to the frame's source. The host sends no messages, so that
 -- its number is 0.
 unfoldable pub acks_to_for : TableEnd → Table → List ℕ → Answer → List (List ℕ)
-acks_to_for e t f a =
-    let k = e.acknowledging t f a 0 in
-    cond k.due (k.frame ∷ []) []
+acks_to_for e t f a = option_to_list (e.acknowledging t f a 0)
 
 -- The table receives a copy of what the card handed out k-th.
 unfoldable pub on_table_for : TableEnd → Scene → ℕ → ℕ → SceneStep

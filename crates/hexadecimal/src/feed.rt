@@ -8,40 +8,42 @@ use crate::line::{COUNTED, Line, Taken};
 use crate::{line, pairs};
 
 // Takes in characters one by one, up to the end of the line or of the piece.
-fn take_each(line: Line, frame: &mut [u8], piece: &[u8], from: usize) -> Taken
+fn take_each(mut line: Line, frame: &mut [u8], piece: &[u8], from: usize) -> Taken
     ensures value { result ≡ taken_from line frame.old from (drop from piece.now) }
     ensures frame_after { frame.new ≡ frame_after line frame.old (drop from piece.now) }
 {
-    let mut len = line.len;
-    let mut half = line.half;
-    let mut odd = line.odd;
-    let mut bad = line.bad;
-    let mut at = from;
     let values = line::digit_values();
-    while at < piece.len() {
+    for at in from..piece.len() {
         let c = piece[at];
-        at += 1;
         if c == b'\n' {
-            return line::taken_of(len, half, odd, bad, at, true);
+            return Taken {
+                line,
+                at: at + 1,
+                ended: true,
+            };
         }
         let d = line::digit_value(&values, c);
         if 15 < d {
-            bad = true;
+            line.bad = true;
             continue;
         }
-        if !odd {
-            half = d;
-            odd = true;
+        if !line.odd {
+            line.half = d;
+            line.odd = true;
             continue;
         }
-        odd = false;
-        if COUNTED <= len {
+        line.odd = false;
+        if COUNTED <= line.len {
             continue;
         }
-        octets::keep(frame, len, half % 16 * 16 + d);
-        len += 1;
+        octets::keep(frame, line.len, line.half % 16 * 16 + d);
+        line.len += 1;
     }
-    line::taken_of(len, half, odd, bad, at, false)
+    Taken {
+        line,
+        at: from.max(piece.len()),
+        ended: false,
+    }
 }
 
 // Takes in the characters of piece from an index on, up to the end of the line, newline included, or of the piece. The
@@ -52,12 +54,13 @@ pub fn take_in(line: Line, frame: &mut [u8], piece: &[u8], from: usize) -> Taken
     ensures frame_after { frame.new ≡ frame_after line frame.old (drop from piece.now) }
 {
     let front = pairs::take_pairs(line, frame, piece, from);
-    let begun = front.line;
     let at = front.at;
-    if at < piece.len() {
-        if piece[at] == b'\n' {
-            return line::taken_of(begun.len, begun.half, begun.odd, begun.bad, at + 1, true);
-        }
+    if at < piece.len() && piece[at] == b'\n' {
+        return Taken {
+            line: front.line,
+            at: at + 1,
+            ended: true,
+        };
     }
-    take_each(begun, frame, piece, at)
+    take_each(front.line, frame, piece, at)
 }

@@ -2,15 +2,16 @@
 // It promises what specs/Taking.antt says of a line and specs/Walking.antt of the table; proofs/line/Decoding.antt
 // shows what frame a line spells.
 ghost use Rattle.std.specs.Prelude.{◌≡◌, ◌<◌, get_or};
-ghost use Rattle.hexadecimal.specs.Taking.{start, refused_line, empty_line, taken_of};
+ghost use Rattle.hexadecimal.specs.Taking.{start, refused_line, empty_line};
 ghost use Rattle.hexadecimal.specs.Walking.{digit_values};
 
 // Bytes of a line that are counted: one more than a frame can have, so that a longer line still reads as too long.
 pub const COUNTED: usize = 9001;
 
 // The line being read: the bytes complete so far, of which no more than COUNTED are counted; the digit that waits for
-// its second half, if odd says that there is one; and whether a character was no digit.
-#[derive(Clone, Copy)]
+// its second half, if odd says that there is one; and whether a character was no digit. A digit that waits no longer is
+// kept, since the nine words of a replay's place have it, as the definition place_words says.
+#[derive(Clone, Copy, Debug, PartialEq, Eq, Hash)]
 pub struct Line {
     pub len: usize,
     pub half: u8,
@@ -19,7 +20,7 @@ pub struct Line {
 }
 
 // What a piece of the input gave: the line so far, the index behind what was taken, and whether the line has ended.
-#[derive(Clone, Copy)]
+#[derive(Clone, Copy, Debug, PartialEq, Eq, Hash)]
 pub struct Taken {
     pub line: Line,
     pub at: usize,
@@ -28,6 +29,7 @@ pub struct Taken {
 
 impl Line {
     // No character yet.
+    #[tactic(auto, unfolding(crate::specs::Taking::start))]
     pub fn start() -> Line
         ensures { result ≡ start }
     {
@@ -40,43 +42,19 @@ impl Line {
     }
 
     // Whether it gets refusal 14 if it ends here.
+    #[tactic(auto, unfolding(crate::specs::Taking::refused_line))]
     pub fn is_refused(self) -> bool
         ensures { result ≡ refused_line self }
     {
-        if self.bad {
-            return true;
-        }
-        self.odd
+        self.bad || self.odd
     }
 
     // Whether it has no character at all.
+    #[tactic(auto, unfolding(crate::specs::Taking::empty_line))]
     pub fn is_empty(self) -> bool
         ensures { result ≡ empty_line self }
     {
-        if self.bad {
-            return false;
-        }
-        if self.odd {
-            return false;
-        }
-        self.len == 0
-    }
-}
-
-// What a piece gave, made from the numbers that a loop works on.
-pub(crate) fn taken_of(len: usize, half: u8, odd: bool, bad: bool, at: usize, ended: bool) -> Taken
-    ensures { result ≡ taken_of len half odd bad at ended }
-{
-    let line = Line {
-        len: len,
-        half: half,
-        odd: odd,
-        bad: bad,
-    };
-    Taken {
-        line: line,
-        at: at,
-        ended: ended,
+        !self.bad && !self.odd && self.len == 0
     }
 }
 
@@ -106,7 +84,8 @@ pub(crate) fn digit_values() -> [u8; 256]
         "
 }
 
-// What a table has for a character, which is below 256.
+// What a table has for a character, which is below 256: 16 for no digit, as the definition digit_values has it, so that
+// a turn of the loop looks both digits up before it tests either.
 pub(crate) fn digit_value(values: &[u8; 256], c: u8) -> u8
     ensures { (result ≡ get_or values.now c 0) × (c < 256) }
 {

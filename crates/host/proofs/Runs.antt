@@ -10,6 +10,7 @@ use native.Mathlib.Omega.{arith}
 use borrow.Author.Tests.{lt-ltb, leb-false}
 use lib.Dec.{eqb, leb, lit<}
 use lib.ListN.{get_or}
+use Rattle.std.specs.Prelude.{is_some}
 use Rattle.seq.specs.Ring.{distance, advance, frame_space}
 use Rattle.seq.proofs.Ring.{distance-lt, distance-further, distance-nearer, distance-passed}
 use Rattle.bitmap.specs.Marks.{mark, with_mark, leading, trailing_ones}
@@ -360,13 +361,14 @@ module _ (p : Pair) (memory : List ℕ) (fits : p.next.0 < frame_space) where
 
   -- so an acknowledgement is due for accepted and again, and for no other answer
   pub answer-due : (own peer n : ℕ) (f : List ℕ)
-      → (acknowledgement_from own peer (receive_of p f memory).answer n).due ≡ acknowledges (receive_of p f memory).answer
+      → is_some (acknowledgement_from own peer (receive_of p f memory).answer n)
+      ≡ acknowledges (receive_of p f memory).answer
   unfolding acknowledgement_from
   answer-due own peer n f = go (receive_of p f memory).answer (answer-run f)
     where
-      go : (a : Answer) → RunFits a → (acknowledgement_from own peer a n).due ≡ acknowledges a
-      go (Accepted k sums run) r = lt-ltb 0 run r.0
-      go (Again k run) r = lt-ltb 0 run r.0
+      go : (a : Answer) → RunFits a → is_some (acknowledgement_from own peer a n) ≡ acknowledges a
+      go (Accepted k sums run) r = rw (lt-ltb 0 run r.0) refl
+      go (Again k run) r = rw (lt-ltb 0 run r.0) refl
       go NoMessages r = refl
       go (Refused k) r = refl
 

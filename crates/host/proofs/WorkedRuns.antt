@@ -3,6 +3,7 @@
 use mathlib.Core.Path.{◌≡◌, refl}
 use mathlib.Core.List.{List, [], ◌∷◌}
 use Prim.Native.Nat.{ℕ, ◌-◌, ◌^◌}
+use Rattle.std.specs.Prelude.{Some}
 use Rattle.seq.specs.Ring.{distance, advance}
 use Rattle.bitmap.specs.Marks.{mark, with_mark, leading, trailing_ones}
 use Rattle.octets.specs.Octets.{little}
@@ -66,7 +67,7 @@ pub again-answer : (memory : List ℕ) (ms : List Message)
 unfolding fresh by_number run_from settled distance advance leading mark
 again-answer memory ms = refl
 
-pub again-bytes : (acknowledgement_from 1 2 (Again (record { 0 = 65500 }) 36) 0).frame
-    ≡ 2 ∷ 0 ∷ 1 ∷ 0 ∷ 0 ∷ 0 ∷ 220 ∷ 255 ∷ 36 ∷ 0 ∷ []
+pub again-bytes : acknowledgement_from 1 2 (Again (record { 0 = 65500 }) 36) 0
+    ≡ Some (2 ∷ 0 ∷ 1 ∷ 0 ∷ 0 ∷ 0 ∷ 220 ∷ 255 ∷ 36 ∷ 0 ∷ [])
 unfolding acknowledgement_from ack_frame frame_head little
 again-bytes = refl

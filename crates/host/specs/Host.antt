@@ -1,5 +1,5 @@
 -- The charging host: opening a pair, receiving a frame, and the acknowledgement that an answer calls for.
-use Rattle.std.specs.Prelude.{ℕ, suc, ◌+◌, ◌%◌, ◌≡◌, Bool, true, false, cond, ◌||◌, ◌&&◌, List, [], ◌∷◌, eqb, leb, ltb, length, replicate}
+use Rattle.std.specs.Prelude.{ℕ, suc, ◌+◌, ◌%◌, ◌≡◌, Bool, true, false, cond, ◌||◌, ◌&&◌, List, [], ◌∷◌, eqb, leb, ltb, length, replicate, Option, Some, None}
 use Rattle.seq.specs.Ring.{distance, advance, frame_space}
 use Rattle.bitmap.specs.Marks.{mark, leading}
 use Rattle.bitmap.specs.Window.{marked_and_moved}
@@ -14,7 +14,6 @@ use Rattle.host.specs.declared.Pair.{Pair}
 use Rattle.host.specs.declared.Opened.{Opened}
 use Rattle.host.specs.declared.Stepped.{Stepped}
 use Rattle.host.specs.declared.Range.{Range}
-use Rattle.host.specs.declared.Acknowledgement.{Acknowledgement}
 use Rattle.host.specs.declared.Answer.{Answer}
 use Rattle.host.specs.declared.Answer.TheVariants.{Accepted, Again, NoMessages, Refused}
 
@@ -186,13 +185,12 @@ range_of (Refused r) = record { start = record { 0 = 0 }; count = 0 }
 
 -- An acknowledgement is due where the range is not empty; it goes from the pair's own ID to the peer's and carries the
 -- number that the caller gives.
-unfoldable pub acknowledgement_from : ℕ → ℕ → Answer → ℕ → Acknowledgement
-acknowledgement_from own peer a num = record {
-  due = ltb 0 (range_of a).count;
-  frame = ack_frame peer own num (range_of a).start.0 (range_of a).count;
-}
+unfoldable pub acknowledgement_from : ℕ → ℕ → Answer → ℕ → Option (List ℕ)
+acknowledgement_from own peer a num =
+    let range = range_of a in
+    cond (ltb 0 range.count) (Some (ack_frame peer own num range.start.0 range.count)) None
 
-abbrev pub acknowledgement_of : Pair → Answer → ℕ → Acknowledgement
+abbrev pub acknowledgement_of : Pair → Answer → ℕ → Option (List ℕ)
 acknowledgement_of p a num = acknowledgement_from p.own p.peer a num
 
 -- ---- answers as numbers

@@ -12,8 +12,8 @@ use host::{Acknowledgement, Answer};
 use host_words::pair;
 use seq::FrameNo;
 
-// An answer's eight words.
-#[derive(Clone, Copy)]
+// An answer's eight words. The kinds are numbers because C reads them.
+#[derive(Clone, Copy, Debug, PartialEq, Eq, Hash)]
 struct Line {
     kind: u64,
     number: u64,
@@ -36,6 +36,8 @@ const NOTHING: Line = Line {
     run: 0,
 };
 
+// Writes the words in their order. Each case of an answer goes by way of this: written at once from each, a refusal and
+// its place are loaded as one word of what were two stores, and a refused frame takes twice as long.
 fn put_line(out: &mut [u64; 8], l: Line)
     ensures { out.new
         ≡ l.kind ∷ l.number ∷ l.messages ∷ l.bytes ∷ l.completed ∷ l.refusal ∷ l.place ∷ l.run ∷ [] }
@@ -65,9 +67,8 @@ pub fn put_answer(out: &mut [u64; 8], answer: Answer)
                 messages: sums.messages as u64,
                 bytes: sums.bytes as u64,
                 completed: sums.completed as u64,
-                refusal: 0,
-                place: 0,
                 run: run as u64,
+                ..NOTHING
             },
         ),
         Answer::Again(n, run) => put_line(
@@ -75,12 +76,8 @@ pub fn put_answer(out: &mut [u64; 8], answer: Answer)
             Line {
                 kind: 2,
                 number: n.0 as u64,
-                messages: 0,
-                bytes: 0,
-                completed: 0,
-                refusal: 0,
-                place: 0,
                 run: run as u64,
+                ..NOTHING
             },
         ),
         Answer::NoMessages => put_line(out, NOTHING),
@@ -88,13 +85,9 @@ pub fn put_answer(out: &mut [u64; 8], answer: Answer)
             out,
             Line {
                 kind: 4,
-                number: 0,
-                messages: 0,
-                bytes: 0,
-                completed: 0,
                 refusal: r.number as u64,
                 place: r.place as u64,
-                run: 0,
+                ..NOTHING
             },
         ),
     }
@@ -124,14 +117,12 @@ pub fn acknowledge_in_place(words: &[u64], answer: Answer, number: FrameNo) -> A
     )
 }
 
-// What an answer's kind, number and run call for an acknowledgement by.
+// What an answer's kind, number and run call for an acknowledgement by. Words that C hands in, so that any kind has an
+// answer.
 pub fn answer_of(kind: u64, answered: u64, run: u64) -> Answer
     ensures { result ≡ answer_of kind answered run }
 {
-    if kind == 1 {
-        return Answer::Again(FrameNo((answered % 65536) as u16), (run % 256) as u8);
-    }
-    if kind == 2 {
+    if kind == 1 || kind == 2 {
         return Answer::Again(FrameNo((answered % 65536) as u16), (run % 256) as u8);
     }
     Answer::NoMessages
@@ -155,9 +146,8 @@ pub fn put_acknowledgement(out: &mut [u8; 10], ack: Acknowledgement) -> u32
     ensures value { result ≡ due_number ack }
     ensures out_after { out.new ≡ written_where_due ack out.old }
 {
-    if ack.due {
-        let bytes = ack.frame;
-        *out = bytes;
+    if let Some(frame) = ack {
+        *out = frame;
         return 1;
     }
     0

@@ -294,8 +294,8 @@ same-acknowledgements p q e a num = go a
     go : (a : Answer) → acknowledgement_of p a num ≡ plain.acknowledgement_of q a num
     go (Accepted n sums run) = rw (same-own, same-peer)
     go (Again n run) = rw (same-own, same-peer)
-    go NoMessages = rw (same-own, same-peer)
-    go (Refused r) = rw (same-own, same-peer)
+    go NoMessages = refl
+    go (Refused r) = refl
 
 -- ---- openings
 

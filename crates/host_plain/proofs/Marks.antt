@@ -1,7 +1,6 @@
 -- Laws of windows of marks, of any length: moving along, and the leading_set of set marks. And the loops that move them.
 -- Assumes nothing.
-use Rattle.std.proofs.Common.{◌≡◌, ℕ, zero, suc, ◌+◌, ◌<◌, ◌≤◌, Bool, true, false, List, [], ◌∷◌, ◌++◌, length, get_or, drop, set, replicate, sym, refl, ap, ◌∙◌, true≢false, suc-add, zero-add, add-one, arith, length-append, length-drop, length-set, get_or-set_other, get_or-set_same, ext_get_or}
-use native.Mathlib.Decide.{dec_lt}
+use Rattle.std.proofs.Common.{◌≡◌, ℕ, zero, suc, ◌+◌, ◌<◌, ◌≤◌, Bool, true, false, List, [], ◌∷◌, ◌++◌, length, get_or, drop, take, set, replicate, sym, refl, ap, ◌∙◌, true≢false, suc-add, zero-add, arith, length-append, length-drop, ext_get_or}
 use Rattle.host_plain.specs.Plain.{leading_set, moved_by}
 
 -- ---- moving along
@@ -89,70 +88,13 @@ set_on [] e = absurd (true≢false (sym e))
 set_on (true ∷ marks) e = ap suc (sym (set-clear marks))
 set_on (false ∷ marks) e = absurd (true≢false (sym e))
 
--- ---- the loop that moves them along one place: i of them have moved
+-- ---- moving them along one place: the first is cleared, and goes round to the end
 
-pub record Moving (before marks : List Bool) (last i : ℕ) : Type 0 where
-  pub last-is : length before ≡ suc last
-  pub within : i ≤ last
-  pub len : length marks ≡ length before
-  pub moved : (j : ℕ) → j < i → get_or marks j false ≡ get_or before (suc j) false
-  pub waiting : (j : ℕ) → i ≤ j → get_or marks j false ≡ get_or before j false
-
-pub moving-start : (before : List Bool) (last : ℕ) → length before ≡ suc last → Moving before before last 0
-moving-start before last e =
-    record { last-is = e; within = omega arith; len = refl; moved = λ j h. absurd (omega arith); waiting = λ j h. refl }
-
-pub moving-turn : {before marks : List Bool} {last i : ℕ} → i < last → Moving before marks last i
-    → Moving before (set marks i (get_or marks (i + 1) false)) last (i + 1)
-moving-turn {before} {marks} {last} {i} h k =
-    record {
-      last-is = k.last-is;
-      within = omega arith;
-      len = length-set marks i (get_or marks (i + 1) false) ∙ k.len;
-      moved = moved;
-      waiting = waiting;
-    }
-  where
-    next : Bool
-    next = get_or marks (i + 1) false
-
-    moved : (j : ℕ) → j < i + 1 → get_or (set marks i next) j false ≡ get_or before (suc j) false
-    moved j l = go (dec_lt j i)
-      where
-        go : Dec (j < i) → get_or (set marks i next) j false ≡ get_or before (suc j) false
-        go (yes q) = get_or-set_other marks i j next false (λ e. omega (arith, e)) ∙ k.moved j q
-        go (no q) =
-            let e : j ≡ i = omega arith in
-            rw (e, get_or-set_same marks i next false (omega (arith, k.len, k.last-is)), ← add-one i)
-            (k.waiting (i + 1) (omega arith))
-
-    waiting : (j : ℕ) → i + 1 ≤ j → get_or (set marks i next) j false ≡ get_or before j false
-    waiting j l = get_or-set_other marks i j next false (λ e. omega (arith, e)) ∙ k.waiting j (omega arith)
-
-pub moving-done : {before marks : List Bool} {last i : ℕ} → last ≤ i → Moving before marks last i
-    → set marks last false ≡ moved_by 1 before
-moving-done {before} {marks} {last} {i} h k =
-    same-marks _ _
-    (length-set marks last false ∙ k.len ∙ sym (length_moved 1 before (omega (arith, k.last-is))))
-    (λ j. at j (dec_lt j last) (dec_lt last j) ∙ sym (moved_at 1 before j))
-  where
-    past : (marks : List Bool) (j : ℕ) → length marks ≤ j → get_or marks j false ≡ false
-    past [] j l = refl
-    past (m ∷ marks) zero l = absurd (omega arith)
-    past (m ∷ marks) (suc j) l = past marks j (omega arith)
-
-    at : (j : ℕ) → Dec (j < last) → Dec (last < j) → get_or (set marks last false) j false ≡ get_or before (1 + j) false
-    at j (yes q) r =
-        get_or-set_other marks last j false false (λ e. omega (arith, e))
-        ∙ k.moved j (omega arith)
-        ∙ ap (λ (n : ℕ). get_or before n false) (omega arith)
-    at j (no q) (yes r) =
-        past (set marks last false) j (omega (arith, length-set marks last false, k.len, k.last-is))
-        ∙ sym (past before (1 + j) (omega (arith, k.last-is)))
-    at j (no q) (no r) =
-        let e : j ≡ last = omega arith in
-        rw (e, get_or-set_same marks last false false (omega (arith, k.len, k.last-is)))
-        (sym (past before (1 + last) (omega (arith, k.last-is))))
+pub moved_round : (marks : List Bool) → 0 < length marks
+    → drop 1 (set marks 0 false) ++ take 1 (set marks 0 false) ≡ moved_by 1 marks
+unfolding moved_by
+moved_round [] h = absurd (omega arith)
+moved_round (m ∷ marks) h = refl
 
 -- ---- the loop that moves them past the set ones
 

@@ -1,6 +1,7 @@
 -- Going through a frame's messages, message by message, against the definitions.
 -- Assumes nothing.
 use Rattle.std.proofs.Common.{◌≡◌, ℕ, zero, suc, ◌+◌, ◌*◌, ◌<◌, ◌≤◌, Bool, true, false, cond, ◌≢◌, List, ◌∷◌, length, sym, refl, ap, ◌∙◌, arith, eq-eqb, ne_eqb, le-leb}
+use Rattle.std.proofs.Common.{None, Result, Ok, Err}
 use mathlib.Core.Option.{none, some}
 use Rattle.octets.specs.Octets.{little, written}
 use Rattle.octets.proofs.Octets.{length-written}
@@ -8,9 +9,9 @@ use Rattle.wire.specs.declared.MessageHeader.{MessageHeader}
 use Rattle.wire.specs.Format.{Message, message_header, carrying}
 use Rattle.wire.specs.Reading.{data_end, message_at, messages_from}
 use Rattle.wire.proofs.Reading.{Headed, headed, unread}
-use Rattle.wire_read.specs.declared.Found.TheVariants.{PastEnd}
 use Rattle.wire_read.specs.Finding.{head_at, found_at, data_at}
 use Rattle.wire_read.proofs.Finding.{IsWhole, is-past, step_past}
+use Rattle.host.specs.declared.Refusal.{Refusal}
 use Rattle.host.specs.declared.Sums.{Sums}
 use Rattle.host_plain.specs.declared.PlainTransactions.{PlainTransactions}
 use Rattle.host_plain.specs.declared.Outcome.{Outcome}
@@ -24,6 +25,7 @@ use Rattle.host_plain.specs.Plain.{
   Tally,
   take_in,
   Taken,
+  all_taken,
   refused_at,
   take_all,
   no_sums,
@@ -126,7 +128,7 @@ module _ {f m₀ : List ℕ} {writing : Bool} {t₀ : PlainTransactions} {memory
       go false = refl
 
   -- no message is there: the frame is not readable
-  pub going-past : (r : Outcome) → found_at f at ≡ PastEnd → TakesAll t₀ f m₀ writing r memory
+  pub going-past : (r : Result Outcome Refusal) → found_at f at ≡ None → TakesAll t₀ f m₀ writing r memory
   going-past r e =
       record {
         stored = g.stored;
@@ -161,7 +163,7 @@ module _ {f m₀ : List ℕ} {writing : Bool} {t₀ : PlainTransactions} {memory
         go zero q = absurd (unread f at l.rest q)
         go (suc n) q = (n, headed f n at l.rest q)
 
-    pub going-stops : r ≢ 0 → TakesAll t₀ f m₀ writing (record { refusal = r; sums = sums; t = t }) memory
+    pub going-stops : r ≢ 0 → TakesAll t₀ f m₀ writing (Err (record { number = r; place = sums.messages })) memory
     going-stops ne =
         record {
           stored = g.stored;
@@ -171,13 +173,12 @@ module _ {f m₀ : List ℕ} {writing : Bool} {t₀ : PlainTransactions} {memory
       where
         stops : (ms : List Message) → Left f at (take_all (tally t₀ m₀ no_sums) ms) (tally t g.stored sums)
             → take_all (tally t₀ m₀ no_sums) ms
-            ≡ ended (record { refusal = r; sums = sums; t = t }) g.stored
+            ≡ refused_at r sums.messages
         stops ms l =
             let k = (front l).1 in
             l.is
             ∙ ap (take_all (tally t g.stored sums)) k.is
             ∙ take-stops t g.stored sums m k.rest r its-refusal ne
-            ∙ sym (rw (ne_eqb r 0 ne))
 
     -- it is not refused: what is written, and the state after it
     module _ (ok : r ≡ 0) (done : Bool) (done-is : done ≡ completes (entry_of t h) h) {memory' : List ℕ}
@@ -214,7 +215,7 @@ module _ {f m₀ : List ℕ} {writing : Bool} {t₀ : PlainTransactions} {memory
 
       pub going-ends : more ≡ false
           → TakesAll t₀ f m₀ writing
-          (record { refusal = r; sums = counted sums len done; t = after t h }) memory'
+          (Ok (record { transactions = after t h; sums = counted sums len done })) memory'
       unfolding take_all
       going-ends z =
           record {
@@ -225,14 +226,13 @@ module _ {f m₀ : List ℕ} {writing : Bool} {t₀ : PlainTransactions} {memory
         where
           ends : (ms : List Message) → Left f at (take_all (tally t₀ m₀ no_sums) ms) (tally t g.stored sums)
               → take_all (tally t₀ m₀ no_sums) ms
-              ≡ ended (record { refusal = r; sums = counted sums len done; t = after t h }) stored'
+              ≡ all_taken (tally (after t h) stored' (counted sums len done))
           ends ms l =
               let k = (front l).1 in
               l.is
               ∙ ap (take_all (tally t g.stored sums)) k.is
               ∙ goes k.rest
               ∙ ap (take_all (tally (after t h) stored' (counted sums len done))) (k.last (sym w.more-is ∙ z))
-              ∙ sym (rw (eq-eqb r 0 ok))
 
       pub going_on : more ≡ true → Going f m₀ writing t₀ memory' (after t h) (counted sums len done) next
       going_on z =

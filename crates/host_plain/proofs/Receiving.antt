@@ -1,6 +1,7 @@
 -- What receiving a frame comes to, case by case in the order of the rules.
 -- Assumes nothing.
-use Rattle.std.proofs.Common.{◌≡◌, ℕ, zero, suc, ◌+◌, ◌-◌, ◌<◌, ◌≤◌, Bool, true, false, cond, eqb, leb, ◌≢◌, List, length, sym, refl, ap, ◌∙◌, true≢false, arith, le-ltb, lt-ltb, eq-eqb, ne_eqb, le-leb}
+use Rattle.std.proofs.Common.{◌≡◌, ℕ, zero, suc, ◌+◌, ◌-◌, ◌<◌, ◌≤◌, Bool, true, false, cond, eqb, leb, ◌≢◌, List, length, sym, refl, ap, ◌∙◌, true≢false, arith, eq-eqb, ne_eqb, le-leb}
+use Rattle.std.proofs.Common.{Result, Ok, Err, OnErr}
 use mathlib.Core.Option.{some}
 use borrow.Author.Tests.{lt-leb}
 use Rattle.seq.specs.declared.FrameNo.{FrameNo}
@@ -10,46 +11,20 @@ use Rattle.wire.specs.Format.{Message}
 use Rattle.wire.specs.Reading.{number, flags, addressed, Read, bad, good, read_frame, refusal_of, messages_from}
 use Rattle.wire.proofs.Reading.{Readable}
 use Rattle.wire_read.specs.Finding.{header_of}
+use Rattle.host.specs.declared.Refusal.{Refusal}
 use Rattle.host.specs.declared.Answer.{Answer}
-use Rattle.host.specs.declared.Answer.TheVariants.{Accepted, Again, NoMessages}
+use Rattle.host.specs.declared.Answer.TheVariants.{Accepted, Again, NoMessages, Refused}
 use Rattle.host.specs.Host.{took_effect}
 use Rattle.host_plain.specs.declared.PlainFrames.{PlainFrames}
+use Rattle.host_plain.specs.declared.PlainTransactions.{PlainTransactions}
 use Rattle.host_plain.specs.declared.PlainPair.{PlainPair}
 use Rattle.host_plain.specs.declared.PlainStepped.{PlainStepped}
 use Rattle.host_plain.specs.declared.Outcome.{Outcome}
-use Rattle.host_plain.specs.Plain.{
-  is_set,
-  past_next,
-  is_settled,
-  run_from,
-  accepting,
-  Taken,
-  all_taken,
-  refused_at,
-  take_all,
-  no_sums,
-  Received,
-  unchanged,
-  refusing,
-  concluded,
-  by_number,
-  answered,
-  receive_of,
-  stepped_of,
-}
-use Rattle.host_plain.specs.Passes.{ended, TakesAll, TakesFrame}
+use Rattle.host_plain.specs.Plain.{past_next, is_settled, run_from, accepting, Taken, all_taken, refused_at, take_all, no_sums, Received, unchanged, refusing, concluded, by_number, answered, receive_of, stepped_of}
+use Rattle.host_plain.specs.Passes.{ended, TakesAll, TakesAllOrNone, TakesFrame}
 use Rattle.host_plain.proofs.Passes.{tally}
 
 -- ---- frame numbers
-
-module _ (s : PlainFrames) (num d : ℕ) (d-is : d ≡ past_next s num) where
-  pub received-near : d < 64 → is_set s.accepted d ≡ is_settled s num
-  unfolding is_settled
-  received-near h = rw (← d-is, lt-ltb d 64 h)
-
-  pub received-far : 64 ≤ d → leb 32768 d ≡ is_settled s num
-  unfolding is_settled
-  received-far h = rw (← d-is, le-ltb d 64 h)
 
 -- the loop that counts a run: what is left of it starts at the number reached
 pub record Counting (s : PlainFrames) (first num run : ℕ) : Type 0 where
@@ -68,12 +43,12 @@ module _ {s : PlainFrames} {first num run : ℕ} (k : Counting s first num run) 
       go zero w = omega (arith, w)
       go (suc n) w = let z : run_from 255 s first ≡ run + 0 = w ∙ rw e in omega (arith, z)
 
-  pub counting-full : 255 ≤ run → run ≡ run_from 255 s first
+  pub counting-full : 255 ≤ run → 255 ≡ run_from 255 s first
   unfolding run_from
   counting-full h = go (255 - run) (omega (arith, k.within)) k.whole
     where
-      go : (n : ℕ) → n ≡ 0 → run_from 255 s first ≡ run + run_from n s num → run ≡ run_from 255 s first
-      go zero z w = omega (arith, w)
+      go : (n : ℕ) → n ≡ 0 → run_from 255 s first ≡ run + run_from n s num → 255 ≡ run_from 255 s first
+      go zero z w = omega (arith, w, k.within)
       go (suc n) z w = absurd (omega (arith, z))
 
   pub counting-on : run < 255 → is_settled s num ≡ true → (next : FrameNo) → next.0 ≡ advance frame_space num 1
@@ -164,51 +139,54 @@ module _ (p : PlainPair) (f memory : List ℕ) where
               let t = took received-some.0 received-some.1 in
               (t.0 ∙ sym (ap stepped_of e), t.1 ∙ sym (ap (λ (r : Received). r.memory) e))
 
--- ---- a frame that is taken in: its messages were gone through without writing
+-- ---- a frame that is taken in: all its messages were written, or none
 
-module _ (p : PlainPair) (f memory : List ℕ) (num : ℕ) (r : Outcome) (left : List ℕ)
-    (first : TakesAll p.transactions f memory false r left) where
-  pub stopped : r.refusal ≢ 0
-      → TakesFrame p f memory num
-      (record { pair = p; answer = refusing r.refusal r.sums.messages }) left
-  stopped stops ms e =
-      let q : take_all (tally p.transactions memory no_sums) ms ≡ refused_at r.refusal r.sums.messages
-      = first.outcome-is ms e ∙ rw (ne_eqb r.refusal 0 stops) in
-      (rw q, first.memory-is ∙ rw q)
+module _ (p : PlainPair) (f memory : List ℕ) (num : ℕ) (left : List ℕ) where
+  pub stopped : (e : Refusal) → TakesAllOrNone p.transactions f memory (Err e) left
+      → TakesFrame p f memory num (record { pair = p; answer = Refused e }) left
+  stopped e whole ms q =
+      let k = whole.outcome-is ms q in
+      (rw k.0, k.1 ∙ rw k.0)
 
-  -- none was refused, and they were gone through again with writing
-  pub took : r.refusal ≡ 0 → (r' : Outcome) (left' : List ℕ) → TakesAll p.transactions f left true r' left'
+  pub took : (o : Outcome) → TakesAllOrNone p.transactions f memory (Ok o) left
       → (frames : PlainFrames) → frames ≡ accepting p.frames num → (n : FrameNo) → n.0 ≡ num
       → (run : ℕ) → run ≡ run_from 255 frames num
       → TakesFrame p f memory num
       (record {
-        pair = record { own = p.own; peer = p.peer; frames = frames; transactions = r'.t };
-        answer = Accepted n r'.sums run;
-      }) left'
-  took passes r' left' second frames frames-are n n-is run run_is ms e =
-      (rw (taken, run_is, frames-are, ← n-is), second.memory-is ∙ rw taken)
+        pair = record { own = p.own; peer = p.peer; frames = frames; transactions = o.transactions };
+        answer = Accepted n o.sums run;
+      }) left
+  took o whole frames frames-are n n-is run run_is ms q =
+      let k = whole.outcome-is ms q in
+      (rw (k.0, run_is, frames-are, ← n-is), rw k.0)
+
+-- ---- gone through without writing, and then again with it
+
+module _ {t : PlainTransactions} {f memory : List ℕ} where
+  pub stopped-first : {e : Refusal} {left : List ℕ} → TakesAll t f memory false (Err e) left
+      → TakesAllOrNone t f memory (Err e) left
+  stopped-first first = record { outcome-is = λ ms q. (first.outcome-is ms q, first.memory-is) }
+
+  pub taken-then : {o : Outcome} {left left' : List ℕ} {r : Result Outcome Refusal} → TakesAll t f memory false (Ok o) left
+      → TakesAll t f left true r left'
+      → TakesAllOrNone t f memory r left'
+  taken-then {o} {left} {left'} {r} first second = record { outcome-is = λ ms q. go r second ms q }
     where
-      again : take_all (tally p.transactions memory no_sums) ms ≡ ended r' second.stored
-      again =
-          ap (λ (m : List ℕ). take_all (tally p.transactions m no_sums) ms) (sym first.memory-is)
-          ∙ second.outcome-is ms e
-
-      both : all_taken (tally r.t first.stored r.sums) ≡ ended r' second.stored
-      both = sym (first.outcome-is ms e ∙ rw (eq-eqb r.refusal 0 passes)) ∙ again
-
-      go : (b : Bool) → eqb r'.refusal 0 ≡ b
-          → ended r' second.stored ≡ all_taken (tally r'.t second.stored r'.sums)
-      go true z = rw z
-      go false z =
-          let q : all_taken (tally r.t first.stored r.sums)
-          ≡ refused_at r'.refusal r'.sums.messages
-          = both ∙ rw z in
-          let n : ◌≡◌ {A = ℕ} 0 1 = cc in
-          absurd (omega arith)
-
-      taken : take_all (tally p.transactions memory no_sums) ms
-          ≡ all_taken (tally r'.t second.stored r'.sums)
-      taken = again ∙ go (eqb r'.refusal 0) refl
+      go : (r : Result Outcome Refusal) → TakesAll t f left true r left' → (ms : List Message)
+          → messages_from (length f) f 10 ≡ some ms
+          → (take_all (tally t memory no_sums) ms ≡ ended r left') × OnErr r (left' ≡ memory)
+      go (Ok o') second ms q = (
+        ap (λ (m : List ℕ). take_all (tally t m no_sums) ms) (sym first.memory-is)
+            ∙ second.outcome-is ms q
+            ∙ rw second.memory-is,
+        tt,
+      )
+      go (Err e) second ms q =
+          let both : all_taken (tally o.transactions first.stored o.sums) ≡ refused_at e.number e.place
+          = sym (first.outcome-is ms q)
+          ∙ ap (λ (m : List ℕ). take_all (tally t m no_sums) ms) (sym first.memory-is)
+          ∙ second.outcome-is ms q in
+          absurd cc
 
 -- ---- a frame that is not accepted leaves the pair as it was
 

@@ -2,7 +2,7 @@
 -- of yes and no; the first stands for the lowest number of a window, and each further one for the next number. Nothing
 -- here is the first host's: only the format of frames, bytes in memory, distances and the types of answers, of
 -- acknowledgements and of open transactions are shared with it.
-use Rattle.std.specs.Prelude.{ℕ, zero, suc, ◌+◌, ◌%◌, Bool, true, false, cond, not, ◌&&◌, ◌||◌, List, [], ◌∷◌, ◌++◌, length, drop, set, replicate, ◌==◌, nat_le, nat_lt, slice_index_or, slice_set}
+use Rattle.std.specs.Prelude.{ℕ, zero, suc, ◌+◌, ◌%◌, Bool, true, false, cond, not, ◌&&◌, ◌||◌, List, [], ◌∷◌, ◌++◌, length, drop, set, replicate, ◌==◌, nat_le, nat_lt, slice_index_or, slice_set, Option, Some, None}
 use Rattle.seq.specs.Ring.{distance, advance, frame_space, trans_space}
 use Rattle.octets.specs.Octets.{little, written}
 use Rattle.wire.specs.declared.MessageHeader.{MessageHeader}
@@ -11,7 +11,6 @@ use Rattle.wire.specs.Reading.{number, flags, addressed, Read, bad, good, read_f
 use Rattle.wire.specs.Writing.{ack_frame}
 use Rattle.host.specs.declared.Open.{Open}
 use Rattle.host.specs.declared.Sums.{Sums}
-use Rattle.host.specs.declared.Acknowledgement.{Acknowledgement}
 use Rattle.host.specs.declared.Answer.{Answer}
 use Rattle.host.specs.declared.Answer.TheVariants.{Accepted, Again, NoMessages, Refused}
 use Rattle.host_plain.specs.declared.PlainFrames.{PlainFrames}
@@ -238,11 +237,11 @@ stepped_of r = record { pair = r.pair; answer = r.answer }
 
 -- A frame from the own ID to the peer's that acknowledges `run` numbers from `start` on; it is due where that is at
 -- least one. It carries `num`, the number that the caller gives for the own next frame.
-abbrev pub acknowledging : PlainPair → ℕ → ℕ → ℕ → Acknowledgement
-acknowledging p num start run = record { due = nat_lt 0 run; frame = ack_frame p.peer p.own num start run }
+abbrev pub acknowledging : PlainPair → ℕ → ℕ → ℕ → Option (List ℕ)
+acknowledging p num start run = cond (nat_lt 0 run) (Some (ack_frame p.peer p.own num start run)) None
 
 -- Accepted and again call for one of the run that they end with, from their own number on. The others call for none.
-abbrev pub acknowledgement_of : PlainPair → Answer → ℕ → Acknowledgement
+abbrev pub acknowledgement_of : PlainPair → Answer → ℕ → Option (List ℕ)
 acknowledgement_of p (Accepted n sums run) num = acknowledging p num n.0 run
 acknowledgement_of p (Again n run) num = acknowledging p num n.0 run
 acknowledgement_of p NoMessages num = acknowledging p num 0 0

@@ -41,8 +41,7 @@ use Rattle.host.proofs.Receiving.{
 use Rattle.host.specs.Transactions.{Transactions}
 use Rattle.host_receive.proofs.run.Counting.{at-behind, at-window, after-accepting}
 use Rattle.host_words.specs.Words.{head_part, joined}
-use Rattle.host_receive.specs.declared.validate.Validated.{Validated}
-use Rattle.host_receive.specs.Validating.{none_yet, validated_from, validated_of}
+use Rattle.host_receive.specs.Validating.{Validation, none_yet, validated_from, validated_of}
 use Rattle.host_receive.proofs.validate.Walk.{validated-short}
 use Rattle.host_receive.specs.Applying.{applied_from}
 use Rattle.host_receive.specs.Refusing.{refused_with, number_answered}
@@ -158,7 +157,7 @@ module _ (p : Pair) (f memory : List ℕ) (num d : ℕ) (w : Awaited p f num d) 
 
   -- a new number: its messages taken in, or refused
   module _ (new : d < 64) (clear : mark p.marks d ≡ false) where
-    abbrev found : Validated
+    abbrev found : Validation
     found = validated_from (length f) f (length memory) 10 (none_yet (transactions_of p))
 
     -- both passes, where the messages are these
@@ -174,9 +173,9 @@ module _ (p : Pair) (f memory : List ℕ) (num d : ℕ) (w : Awaited p f num d) 
         (not-taken-all f (length memory) (length f) 10 (none_yet (transactions_of p)) memory ms refl e ne)
 
     -- what both passes leave
-    abbrev pub effected : Validated → Received
+    abbrev pub effected : Validation → Received
     effected v = record {
-      pair = joined (accepted_head (head_part p) num v.lowest.0 v.closed)
+      pair = joined (accepted_head (head_part p) num v.lowest v.closed)
           (applied_from v.messages f 10 p.table memory).table;
       memory = (applied_from v.messages f 10 p.table memory).memory;
       answer = Accepted (record { 0 = num })
@@ -207,7 +206,7 @@ module _ (p : Pair) (f memory : List ℕ) (num d : ℕ) (w : Awaited p f num d) 
               (record { messages = found.messages; bytes = found.bytes; completed = found.completed }) run;
         }
 
-    module _ (v : Validated) (right : v ≡ validated_of f (transactions_of p) (length memory)) where
+    module _ (v : Validation) (right : v ≡ validated_of f (transactions_of p) (length memory)) where
       v-is : v ≡ found
       v-is = right ∙ validated-short f (transactions_of p) (length memory) w.most
 

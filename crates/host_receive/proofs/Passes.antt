@@ -16,8 +16,7 @@ use Rattle.host.specs.Transactions.{fills, left_in, closed_verdict, open_verdict
 use Rattle.host.specs.Host.{effect, Tally, take_in, fine, wrong, take_all}
 use Rattle.host.proofs.Judging.{closes, holds}
 use Rattle.host.proofs.Receiving.{length-effect}
-use Rattle.host_receive.specs.declared.validate.Validated.{Validated}
-use Rattle.host_receive.specs.Validating.{Progress, onward, passed, validated_from}
+use Rattle.host_receive.specs.Validating.{Validation, Progress, onward, passed, validated_from}
 use Rattle.host_receive.proofs.validate.Walk.{
   its-verdict,
   validated-past,
@@ -85,9 +84,9 @@ module _ (size : ℕ) (g : Progress) (memory : List ℕ) (m : Message) (ms : Lis
 -- ---- a frame of which no message is refused
 
 -- what both passes leave
-abbrev pub tally_of_both : Validated → Applied → Tally
+abbrev pub tally_of_both : Validation → Applied → Tally
 tally_of_both r a = record {
-  transactions = record { lowest = r.lowest.0; closed = r.closed; table = a.table };
+  transactions = record { lowest = r.lowest; closed = r.closed; table = a.table };
   memory = a.memory;
   messages = r.messages;
   bytes = r.bytes;
@@ -96,7 +95,7 @@ tally_of_both r a = record {
 
 -- what validating its messages from an offset on comes to: r
 pub record Taken (f : List ℕ) (at : ℕ) (g : Progress) (memory : List ℕ) (ms : List Message)
-    (r : Validated) : Type 0 where
+    (r : Validation) : Type 0 where
   pub counted : r.messages ≡ g.messages + length ms
   pub is : take_all (tally_by g memory) g.messages ms
       ≡ fine (tally_of_both r (applied_from (length ms) f at g.transactions.table memory))
@@ -130,7 +129,7 @@ module _ (f : List ℕ) (size at : ℕ) (g : Progress) (memory : List ℕ) (same
             ∙ ap (λ (a : Applied). fine (tally_of_both (passed next) a)) (sym (applied-on 0));
       }
 
-  taken_more : (rest : List Message) (r : Validated)
+  taken_more : (rest : List Message) (r : Validation)
       → Taken f (next_header (data_end f at)) next (effect memory m u.done) rest r → Taken f at g memory (m ∷ rest) r
   unfolding onward
   taken_more rest r t =
@@ -160,7 +159,7 @@ taken_of f size n at g memory ms same h r ih =
         → Taken f at g memory (message_at f at ∷ h.rest) (validated_from (suc n) f size at g)
     go false y b z =
         let ne = eqb-false w.refusal 0 y in
-        absurd (ne (sym (ap (λ (r : Validated). r.refusal) (validated-stops f size at g n h.inside ne)) ∙ r))
+        absurd (ne (sym (ap (λ (r : Validation). r.refusal) (validated-stops f size at g n h.inside ne)) ∙ r))
     go true y false z =
         let ok = eqb-true w.refusal 0 y in
         rw (validated-last f size at g n h.inside ok z, h.last z)
@@ -171,7 +170,7 @@ taken_of f size n at g memory ms same h r ih =
         rw e (taken_more f size at g memory same h.inside ok h.rest _
         (ih (onward g (message_at f at) w) (effect memory (message_at f at) w.done) h.rest
         (length-effect memory (message_at f at) w.done ∙ same) (h.more z)
-        (sym (ap (λ (r : Validated). r.refusal) e) ∙ r)))
+        (sym (ap (λ (r : Validation). r.refusal) e) ∙ r)))
 
 pub taken-all : (f : List ℕ) (size turns at : ℕ) (g : Progress) (memory : List ℕ) (ms : List Message)
     → length memory ≡ size
@@ -210,7 +209,7 @@ not-taken-of f size n at g memory ms same h ne ih =
         ∙ rw (validated-stops f size at g n h.inside no)
     go true y false z =
         let e = validated-last f size at g n h.inside (eqb-true w.refusal 0 y) z in
-        absurd (ne (ap (λ (r : Validated). r.refusal) e))
+        absurd (ne (ap (λ (r : Validation). r.refusal) e))
     go true y true z =
         let ok = eqb-true w.refusal 0 y in
         let e = validated-more f size at g n h.inside ok z in
@@ -218,7 +217,7 @@ not-taken-of f size n at g memory ms same h ne ih =
         ∙ rw (← add-one g.messages, e)
         (ih (onward g (message_at f at) w) (effect memory (message_at f at) w.done) h.rest
         (length-effect memory (message_at f at) w.done ∙ same) (h.more z)
-        (λ q. ne (ap (λ (r : Validated). r.refusal) e ∙ q)))
+        (λ q. ne (ap (λ (r : Validation). r.refusal) e ∙ q)))
 
 pub not-taken-all : (f : List ℕ) (size turns at : ℕ) (g : Progress) (memory : List ℕ) (ms : List Message)
     → length memory ≡ size → messages_from turns f at ≡ some ms → (validated_from turns f size at g).refusal ≢ 0
@@ -253,7 +252,7 @@ cut_of f size n at g e ih = past (dec_le (data_end f at) (length f))
         → Refused
     go inside false y b z =
         let no = eqb-false w.refusal 0 y in
-        λ q. no (sym (ap (λ (r : Validated). r.refusal) (validated-stops f size at g n inside no)) ∙ q)
+        λ q. no (sym (ap (λ (r : Validation). r.refusal) (validated-stops f size at g n inside no)) ∙ q)
     go inside true y false z =
         let q : some (message_at f at ∷ []) ≡ none = sym (step-last f at n inside z) ∙ e in
         let z : ◌≡◌ {A = ℕ} 0 1 = cc in
@@ -261,13 +260,13 @@ cut_of f size n at g e ih = past (dec_le (data_end f at) (length f))
     go inside true y true z =
         let m = validated-more f size at g n inside (eqb-true w.refusal 0 y) z in
         λ q. ih (onward g (message_at f at) w) (further _ (sym (step-more f at n inside z) ∙ e))
-        (sym (ap (λ (r : Validated). r.refusal) m) ∙ q)
+        (sym (ap (λ (r : Validation). r.refusal) m) ∙ q)
 
     past : Dec (data_end f at ≤ length f) → Refused
     past (yes h) = go h (eqb w.refusal 0) refl (follows (field f (at + 23) 1)) refl
     past (no h) =
         let r = validated-past f size at g (suc n) (omega arith) in
-        λ q. omega (arith, sym (ap (λ (r : Validated). r.refusal) r) ∙ q)
+        λ q. omega (arith, sym (ap (λ (r : Validation). r.refusal) r) ∙ q)
 
 pub validated-cut : (f : List ℕ) (size turns at : ℕ) (g : Progress) → messages_from turns f at ≡ none
     → (validated_from turns f size at g).refusal ≢ 0

@@ -10,7 +10,6 @@ ghost use Rattle.host_receive.specs.Applying.{TakesEffect, Applies};
 use crate::verdict;
 use host_words::update;
 use wire::MessageHeader;
-use wire_read::Found;
 
 // A message's data at its address, and straight after it the completion where the message completes its transaction.
 fn write_message(memory: &mut [u8], h: MessageHeader, payload: &[u8], done: bool)
@@ -43,18 +42,11 @@ pub(crate) fn apply(words: &mut [u64], f: &[u8], memory: &mut [u8], n: u32)
         return;
     }
     let mut at = wire::FRAME_HEADER;
-    let mut i: u32 = 0;
-    while i < n {
-        let found = wire_read::message_at(f, at);
-        match found {
-            Found::PastEnd => {
-                return;
-            }
-            Found::Whole(h, _, _, next) => {
-                take_effect(words, memory, h, wire_read::data_at(f, at));
-                at = next;
-                i += 1;
-            }
-        }
+    for _ in 0..n {
+        let Some(found) = wire_read::message_at(f, at) else {
+            return;
+        };
+        take_effect(words, memory, found.header, wire_read::data_at(f, at));
+        at = found.next;
     }
 }

@@ -6,21 +6,16 @@ ghost use Rattle.host_words.specs.Updating.{with_head};
 ghost use Rattle.host_receive.specs.Numbering.{is_new, accepted_head, run_of_accepted, Accepts};
 
 use crate::run;
-use bitmap::word64;
+use bitmap::Bitmap;
 use host_words::{Head, update};
-use seq::{FrameNo, TransNo};
+use seq::{FrameNo, Serial, TransNo};
 
 // Whether a frame d past the next one is in the window and was not accepted yet.
+#[tactic(auto, unfolding(crate::specs::Numbering::is_new))]
 pub(crate) fn is_new(marks: u64, d: u16) -> bool
     ensures { result ≡ is_new marks d }
 {
-    if 64 <= d {
-        return false;
-    }
-    if word64::is_marked(marks, d as u32) {
-        return false;
-    }
-    true
+    d < 64 && !marks.is_marked(d as u32)
 }
 
 // A frame is accepted: it is marked, the window begins at the first number that is not accepted, and the transactions'
@@ -34,14 +29,14 @@ pub(crate) fn accept(words: &mut [u64], number: FrameNo, lowest: TransNo, closed
     let next = host_words::next(words);
     let d = number.distance(next);
     let marks = host_words::marks(words);
-    let marked = word64::with_mark(marks, d as u32);
+    let marked = marks.with_mark(d as u32);
     let run = run::run_within(marked, d);
-    let past = word64::trailing_ones(marked);
+    let past = marked.run_length();
     let head = Head {
         own: host_words::own(words),
         peer: host_words::peer(words),
         next: next.advance(past as u16),
-        marks: word64::shifted(marked, past),
+        marks: marked.shifted(past),
         lowest,
         closed,
     };

@@ -4,18 +4,43 @@ ghost use Rattle.std.specs.Prelude.{◌≡◌};
 ghost use Rattle.host.specs.declared.Answer.TheVariants.{Again};
 ghost use Rattle.host.specs.Host.{refused};
 ghost use Rattle.host_receive.specs.Counting.{run_at};
-ghost use Rattle.host_receive.specs.Refusing.{refused_with, number_answered};
+ghost use Rattle.host_receive.specs.Refusing.{number_answered};
+ghost use Rattle.refusal.specs.Reason.{number};
 
 use crate::run;
 use host::{Answer, Refusal};
+use refusal::Reason;
 use seq::FrameNo;
 use wire_read::layout;
+
+// Why a frame is refused, and the index of the message that this is about, or 0.
+#[derive(Clone, Copy, Debug, PartialEq, Eq, Hash)]
+pub(crate) struct Refused {
+    pub(crate) reason: Reason,
+    pub(crate) place: u32,
+}
+
+// A frame that is refused as a whole.
+impl From<Reason> for Refused {
+    ghost from_gives = { λ reason r. r ≡ record { reason = reason; place = 0 } };
+
+    fn from(reason: Reason) -> Refused {
+        Refused { reason, place: 0 }
+    }
+}
 
 // Refused, with the number and the place.
 pub fn refusing(number: u8, place: u32) -> Answer
     ensures { result ≡ refused number place }
 {
     Answer::Refused(Refusal { number, place })
+}
+
+// Refuses for a reason, with the place.
+pub(crate) fn refuse(stop: Refused) -> Answer
+    ensures { result ≡ refused (number stop.reason) stop.place }
+{
+    refusing(stop.reason.number(), stop.place)
 }
 
 // Again, with the run of numbers from its own on.
@@ -25,19 +50,9 @@ fn again(number: FrameNo, marks: u64, d: u16) -> Answer
     Answer::Again(number, run::run_at(marks, d))
 }
 
-// The answer to a frame of which a message is refused: its layout, past that message too, comes first.
-pub(crate) fn refuse(own: u16, peer: u16, f: &[u8], stop: u8, place: u32) -> Answer
-    ensures { result ≡ refused_with own peer f.now stop place }
-{
-    let cut = layout::refusal_of(f, own, peer);
-    if cut != 0 {
-        return refusing(cut, 0);
-    }
-    refusing(stop, place)
-}
-
 // The answer to a frame with messages, d past the next one, that is behind, ahead, or in the window and accepted
 // already: its layout comes first.
+#[tactic(auto, unfolding(crate::specs::Refusing::number_answered))]
 pub(crate) fn answer_by_number(
     own: u16,
     peer: u16,
@@ -48,15 +63,11 @@ pub(crate) fn answer_by_number(
 ) -> Answer
     ensures { result ≡ number_answered own peer f.now number.0 marks d }
 {
-    let layout = layout::refusal_of(f, own, peer);
-    if layout != 0 {
-        return refusing(layout, 0);
+    if let Err(reason) = layout::check(f, own, peer) {
+        return refuse(reason.into());
     }
-    if 32768 <= d {
+    if 32768 <= d || d < 64 {
         return again(number, marks, d);
     }
-    if d < 64 {
-        return again(number, marks, d);
-    }
-    refusing(refusal::FRAME_AHEAD, 0)
+    refuse(Reason::FrameAhead.into())
 }

@@ -1,226 +1,223 @@
 // The first pass over a frame's messages: each is judged against what those before it leave, and nothing is written.
 // The entries of the table are read in the words. Assumes nothing: any bytes and any words get an answer. It promises
 // specs/Validating.antt.
-ghost use Rattle.std.specs.Prelude.{◌≡◌, ◌+◌, ◌%◌, ◌<◌, ◌≤◌, length, if◌then◌else◌};
+ghost use Rattle.std.proofs.Common.{rules};
+ghost use Rattle.std.specs.Prelude.{◌≡◌, ◌%◌, false, Option, None, Some, Ok, Err, List, ℕ, IfOk, IfErr};
+ghost use Rattle.bitmap.specs.Marks.{mark};
+ghost use Rattle.host.specs.declared.Open.{Open};
 ghost use Rattle.host.specs.Host.{transactions_of};
 ghost use Rattle.host_words.specs.Words.{pair_of};
-ghost use Rattle.host_receive.specs.Validating.{refused_at, validated_of, current, Marks, Notes, Finds};
+ghost use Rattle.host_receive.specs.declared.refuse.Refused.{Refused};
+ghost use Rattle.host_receive.specs.declared.validate.Stop.TheVariants.{Refusal, MetAgain};
+ghost use Rattle.host_receive.specs.Validating.{Finds};
+ghost use Rattle.host_receive.specs.Keeping.{Shows, Moves, StandsApart, StandsKept};
 
-use crate::verdict;
-use bitmap::word32;
-use host::{Open, Verdict};
+use crate::refuse::Refused;
+use crate::verdict::{self, Judged};
+use bitmap::Bitmap;
+use host::{Open, Sums};
 use host_words::update;
+use refusal::Reason;
 use seq::TransNo;
-use wire_read::Found;
 
-// What is found of a frame: a refusal, and then messages is the index of the message that it is about and all else is
-// 0; or none, and then the sums, and the transactions' window as it is after the frame.
+// What is found of a frame's messages up to an offset, none of which is refused: the sums, and the transactions' window
+// as it is after them. The offset is a word, so the compiler moves a `Result` of all this by whole words. Nothing compares
+// or prints it, so that it derives no more.
 #[derive(Clone, Copy)]
-pub struct Validated {
-    pub refusal: u8,
-    pub messages: u32,
-    pub bytes: u32,
-    pub completed: u32,
-    pub lowest: TransNo,
-    pub closed: u32,
+pub(crate) struct Validated {
+    pub(crate) at: usize,
+    pub(crate) sums: Sums,
+    pub(crate) lowest: TransNo,
+    pub(crate) closed: u32,
 }
 
-// In place of a refusal: an entry was met again that the frame had changed.
-const MET_AGAIN: u8 = 255;
+// What is kept of the entries that a frame's messages change.
+trait Entries {
+    // Why the messages are judged no further.
+    type Stop: From<Refused>;
 
-// Refused, for the message at an index or as a whole.
-fn refused_at(refusal: u8, messages: u32) -> Validated
-    ensures { result ≡ refused_at refusal messages }
-{
-    Validated {
-        refusal,
-        messages,
-        bytes: 0,
-        completed: 0,
-        lowest: TransNo(0),
-        closed: 0,
+    // The words, with the entries that are kept, stand for a table.
+    ghost stands: { Self → List ℕ → List Open → Type 0 };
+
+    // The refusal that it is; none where an entry that was changed is not kept.
+    ghost refusal: { Self.Stop → Option Refused };
+
+    // A transaction's entry is known as the messages so far leave it.
+    ghost knows: { Self → ℕ → Type 0 };
+
+    // Stops where a transaction's entry is not known.
+    fn check_known(&self, number: TransNo) -> Result<(), Self::Stop>
+        ensures known { IfOk result (λ done. knows self.now number.0) }
+        ensures again { IfErr result (λ stop. refusal stop ≡ None) };
+
+    // A transaction's entry, where it is known. It is no value of that `Result`: behind a tag of half a word an entry is
+    // stored and loaded in pieces that do not match, and a processor waits for these.
+    fn current(&self, words: &[u64], number: TransNo) -> Open
+        ensures { knows self.now number.0 → Shows (stands self.now) words.now number.0 result };
+
+    // A message was judged by its entry.
+    fn note(&mut self, number: TransNo, o: Open, judged: Judged)
+        ensures { Moves (stands self.old) (stands self.new) number.0 o judged };
+
+    ghost told: { (r : Refused) (stop : Self.Stop) → Self.Stop.from_gives r stop → refusal stop ≡ Some r };
+}
+
+// Only which entries were changed.
+#[derive(Drop)]
+struct Apart {
+    changed: u32,
+}
+
+// Refused, or an entry is met again that the frame changed.
+enum Stop {
+    Refusal(Refused),
+    MetAgain,
+}
+
+impl From<Refused> for Stop {
+    ghost from_gives = { λ refused stop. stop ≡ Refusal refused };
+
+    fn from(refused: Refused) -> Stop {
+        Stop::Refusal(refused)
     }
 }
 
-// How many messages there were, their data bytes, and how many of them complete their transaction.
-#[derive(Clone, Copy)]
-struct Counts {
-    messages: u32,
-    bytes: u32,
-    completed: u32,
-}
+impl Entries for Apart {
+    type Stop = Stop;
 
-const NONE: Counts = Counts {
-    messages: 0,
-    bytes: 0,
-    completed: 0,
-};
+    ghost stands = { λ e. StandsApart e.changed };
 
-fn one_if(done: bool) -> u32
-    ensures { (result ≡ (if done then 1 else 0)) × (result ≤ 1) }
-{
-    if done {
-        return 1;
+    ghost refusal = { elim [ Refusal r ↦ Some r | MetAgain ↦ None ] };
+
+    ghost knows = { λ e number. mark e.changed (number % 32) ≡ false };
+
+    fn check_known(&self, number: TransNo) -> Result<(), Stop> {
+        if self.changed.is_marked(number.0 % 32) {
+            return Err(Stop::MetAgain);
+        }
+        Ok(())
     }
-    0
-}
 
-// One message more. What a frame holds fits by far.
-fn counted(c: Counts, len: u16, done: bool) -> Counts
-    requires { (c.messages < 65536) × (c.bytes < 65536) × (c.completed < 65536) }
-    ensures { result ≡ record {
-      messages = c.messages + 1;
-      bytes = c.bytes + len;
-      completed = c.completed + (if done then 1 else 0);
-    } }
-{
-    let one = one_if(done);
-    Counts {
-        messages: c.messages + 1,
-        bytes: c.bytes + len as u32,
-        completed: c.completed + one,
+    fn current(&self, words: &[u64], number: TransNo) -> Open {
+        host_words::entry(words, number)
     }
-}
 
-// No message is refused.
-fn passed(c: Counts, lowest: TransNo, closed: u32) -> Validated
-    ensures { result ≡ record {
-      refusal = 0;
-      messages = c.messages;
-      bytes = c.bytes;
-      completed = c.completed;
-      lowest = lowest;
-      closed = closed;
-    } }
-{
-    Validated {
-        refusal: 0,
-        messages: c.messages,
-        bytes: c.bytes,
-        completed: c.completed,
-        lowest,
-        closed,
-    }
-}
-
-// The entry as the frame's messages so far leave it.
-fn current_entry(words: &[u64], kept: &[u64], changed: u32, number: TransNo) -> Open
-    ensures { result ≡ current words.now kept.now changed (number.0 % 32) }
-{
-    if word32::is_marked(changed, number.0 % 32) {
-        return host_words::entry(kept, number);
-    }
-    host_words::entry(words, number)
-}
-
-// Keeps the entry that a message leaves, and marks it as changed.
-fn note(kept: &mut [u64], changed: u32, number: TransNo, v: Verdict) -> u32
-    ensures { Notes kept.old changed (number.0 % 32) v kept.new result }
-{
-    let left = v.entry;
-    update::put_entry(kept, number, left);
-    word32::with_mark(changed, number.0 % 32)
-}
-
-// The marks of changed entries after a message, which leaves one unmarked that was empty and is empty again.
-fn marked(changed: u32, number: TransNo, o: Open, done: bool) -> u32
-    ensures { Marks changed (number.0 % 32) o done result }
-{
-    if done {
-        if o.received == 0 {
-            return changed;
+    // An entry that was empty and is empty again stays unmarked.
+    fn note(&mut self, number: TransNo, o: Open, judged: Judged) {
+        if !(judged.done && o.received == 0) {
+            self.changed = self.changed.with_mark(number.0 % 32);
         }
     }
-    word32::with_mark(changed, number.0 % 32)
+
+    ghost told = { Prim.search rules };
 }
 
-// Judges a frame's messages for a memory of size bytes, up to the first that is refused or passes the end (5), or that
-// meets an entry again which the frame changed; 2 where the frame is too long to be read.
-fn find_apart(words: &[u64], f: &[u8], size: usize) -> Validated
-    ensures { Finds words.now f.now size result }
+// The changed entries too, in words of their own.
+#[derive(Drop)]
+struct Kept {
+    changed: u32,
+    entries: [u64; 67],
+}
+
+impl Entries for Kept {
+    type Stop = Refused;
+
+    ghost stands = { λ e. StandsKept e.entries e.changed };
+
+    ghost refusal = { Some };
+
+    ghost knows = { λ e number. e ≡ e };
+
+    fn check_known(&self, _: TransNo) -> Result<(), Refused> {
+        Ok(())
+    }
+
+    fn current(&self, words: &[u64], number: TransNo) -> Open {
+        if self.changed.is_marked(number.0 % 32) {
+            return host_words::entry(&self.entries, number);
+        }
+        host_words::entry(words, number)
+    }
+
+    fn note(&mut self, number: TransNo, _: Open, judged: Judged) {
+        update::put_entry(&mut self.entries, number, judged.entry);
+        self.changed = self.changed.with_mark(number.0 % 32);
+    }
+
+    ghost told = { Prim.search rules };
+}
+
+// Judges a frame's messages for a memory of size bytes, each against what those before it leave, up to the first that
+// is refused or passes the end (5); 2 where the frame is too long to be read.
+fn find<E: Entries>(
+    entries: &mut E,
+    words: &[u64],
+    f: &[u8],
+    size: usize,
+) -> Result<Validated, E::Stop>
+    requires { E.stands entries.old words.now (pair_of words.now).table }
+    ensures found { IfOk result (λ v. Finds f.now words.now size (Ok v)) }
+    ensures refused { IfErr result (λ stop. (r : Refused) → E.refusal stop ≡ Some r → Finds f.now words.now size (Err r)) }
 {
     if wire::FRAME_MOST < f.len() {
-        return refused_at(refusal::FRAME_TOO_LONG, 0);
+        return Err(Refused::from(Reason::FrameTooLong).into());
     }
-    let mut lowest = host_words::lowest(words);
-    let mut closed = host_words::closed(words);
-    let mut changed: u32 = 0;
-    let mut counts = NONE;
-    let mut at = wire::FRAME_HEADER;
+    let mut found = Validated {
+        at: wire::FRAME_HEADER,
+        sums: Sums {
+            messages: 0,
+            bytes: 0,
+            completed: 0,
+        },
+        lowest: host_words::lowest(words),
+        closed: host_words::closed(words),
+    };
     loop {
-        let found = wire_read::message_at(f, at);
-        match found {
-            Found::PastEnd => return refused_at(refusal::PAST_FRAME_END, counts.messages),
-            Found::Whole(h, len, more, next) => {
-                let number = h.trans;
-                if word32::is_marked(changed, number.0 % 32) {
-                    return refused_at(MET_AGAIN, 0);
-                }
-                let o = host_words::entry(words, number);
-                let v = verdict::judge(lowest, closed, o, h, len, size);
-                if v.refusal != 0 {
-                    return refused_at(v.refusal, counts.messages);
-                }
-                lowest = TransNo(v.lowest.0);
-                closed = v.closed;
-                changed = marked(changed, number, o, v.done);
-                counts = counted(counts, len, v.done);
-                if !more {
-                    return passed(counts, lowest, closed);
-                }
-                at = next;
-            }
+        let place = found.sums.messages;
+        let m = wire_read::message_at(f, found.at).ok_or(Refused {
+            reason: Reason::PastFrameEnd,
+            place,
+        })?;
+        let number = m.header.trans;
+        entries.check_known(number)?;
+        let o = entries.current(words, number);
+        let judged = verdict::judge(found.lowest, found.closed, o, m.header, m.len, size).map_err(
+            |reason| Refused { reason, place },
+        )?;
+        entries.note(number, o, judged);
+        found = Validated {
+            at: m.next,
+            sums: Sums {
+                messages: found.sums.messages + 1,
+                bytes: found.sums.bytes + m.len as u32,
+                completed: found.sums.completed + judged.done as u32,
+            },
+            lowest: judged.lowest,
+            closed: judged.closed,
+        };
+        if !m.more {
+            return Ok(found);
         }
     }
 }
 
-// The same, with words that keep the changed entries, so that one can be met again.
-fn find_kept(words: &[u64], kept: &mut [u64], f: &[u8], size: usize) -> Validated
-    requires { length kept.old ≡ 67 }
-    ensures { result ≡ validated_of f.now (transactions_of (pair_of words.now)) size }
+// Judges a frame's messages. At first changed entries are not kept, which is enough for a frame whose messages are of
+// different transactions or each complete theirs; only where one is met again, all is judged anew with words to keep
+// them in, whose clearing costs as much as a short frame.
+pub(crate) fn validate(words: &[u64], f: &[u8], size: usize) -> Result<Validated, Refused>
+    ensures { Finds f.now words.now size result }
 {
-    if wire::FRAME_MOST < f.len() {
-        return refused_at(refusal::FRAME_TOO_LONG, 0);
+    match find(&mut Apart { changed: 0 }, words, f, size) {
+        Err(Stop::MetAgain) => find(
+            &mut Kept {
+                changed: 0,
+                entries: [0; 67],
+            },
+            words,
+            f,
+            size,
+        ),
+        Err(Stop::Refusal(refused)) => Err(refused),
+        Ok(found) => Ok(found),
     }
-    let mut lowest = host_words::lowest(words);
-    let mut closed = host_words::closed(words);
-    let mut changed: u32 = 0;
-    let mut counts = NONE;
-    let mut at = wire::FRAME_HEADER;
-    loop {
-        let found = wire_read::message_at(f, at);
-        match found {
-            Found::PastEnd => return refused_at(refusal::PAST_FRAME_END, counts.messages),
-            Found::Whole(h, len, more, next) => {
-                let number = h.trans;
-                let o = current_entry(words, kept, changed, number);
-                let v = verdict::judge(lowest, closed, o, h, len, size);
-                if v.refusal != 0 {
-                    return refused_at(v.refusal, counts.messages);
-                }
-                lowest = TransNo(v.lowest.0);
-                closed = v.closed;
-                changed = note(kept, changed, number, v);
-                counts = counted(counts, len, v.done);
-                if !more {
-                    return passed(counts, lowest, closed);
-                }
-                at = next;
-            }
-        }
-    }
-}
-
-// Judges a frame's messages, each against what those before it leave. At first changed entries are not kept, which is
-// enough for a frame whose messages are of different transactions or each complete theirs; only where one is met again,
-// all is judged anew with words to keep them in, whose clearing costs as much as a short frame.
-pub(crate) fn validate(words: &[u64], f: &[u8], size: usize) -> Validated
-    ensures { result ≡ validated_of f.now (transactions_of (pair_of words.now)) size }
-{
-    let found = find_apart(words, f, size);
-    if found.refusal != MET_AGAIN {
-        return found;
-    }
-    let mut kept = [0u64; 67];
-    find_kept(words, &mut kept, f, size)
 }

@@ -1,89 +1,63 @@
 // Reading a host's pair back from a text that the caller lends, into 67 words that it lends too. Assumes nothing: any
 // bytes get an answer, and words of another number stay as they are. It promises the answer, and the pair that the
 // words hold then (specs/Restoring.antt).
-ghost use Rattle.std.specs.Prelude.{◌≡◌, cond, [], ◌+◌, ◌*◌, ◌^◌, ◌≤◌, ◌<◌, length, drop};
-ghost use Rattle.std.proofs.Math.Option.{none, some};
+ghost use Rattle.std.specs.Prelude.{◌≡◌, [], ◌+◌, ◌*◌, ◌^◌, ◌≤◌, ◌<◌, length, drop, unwrap_or, ok_or, IfSome};
+ghost use Rattle.refusal.specs.declared.Reason.TheVariants.{BadText};
+ghost use Rattle.refusal.specs.Reason.{refusal_number};
 ghost use Rattle.octets.specs.Octets.{field};
 ghost use Rattle.hexadecimal.specs.Fields.{value_of, unhex, numbers_from, read_line, read_all};
+ghost use Rattle.host_words.specs.Opening.{opening};
 ghost use Rattle.host_words.specs.Words.{head_part, joined};
-ghost use Rattle.host_stored.specs.Form.{
-  head_widths,
-  open_widths,
-  open_in,
-  pair_in,
-  head_fine,
-  open_fine,
-  refused_reading,
-  reading,
-  read_text,
-};
-ghost use Rattle.host_store.specs.Steps.{line_of, bad_lines, table_of};
+ghost use Rattle.host_stored.specs.Form.{head_widths, open_widths, open_in, pair_in, head_fine, open_fine, read_text};
+ghost use Rattle.host_store.specs.Steps.{bytes_in, line_of, line_in, table_of, lines_in};
 ghost use Rattle.host_store.specs.Restoring.{Restores};
 
-use bitmap::{word32, word64};
-use host::{Open, Opened, Pair, Refusal};
+use bitmap::Bitmap;
+use host::{Open, Pair};
 use host_stored::{HEAD, OPEN, VERSION};
-use host_words::{Head, opening, pair};
-use seq::{FrameNo, TransNo};
+use host_words::{Head, opening};
+use refusal::Reason;
+use seq::{FrameNo, Serial, TransNo};
 
-// An open transaction's line: whether it is fine, its number and its entry of the table; zeros where it is not.
-#[derive(Clone, Copy)]
-pub struct Line {
-    pub fine: bool,
+// An open transaction's line: its number, and its entry of the table.
+#[derive(Clone, Copy, Debug, PartialEq, Eq, Hash)]
+pub struct OpenLine {
     pub number: TransNo,
     pub entry: Open,
 }
 
-// The lines of all open transactions: whether they are fine, and the table that they make; none open where they are
-// not.
-#[derive(Clone, Copy)]
-pub struct Lines {
-    pub fine: bool,
-    pub table: [Open; 32],
-}
-
 // ---- characters
 
-// The value of a lower-case digit, 16 where the character is none.
-fn digit_value(c: u8) -> u8
-    ensures { (result ≡ value_of c) × (result ≤ 16) }
+// The value of a lower-case digit.
+fn digit_value(c: u8) -> Option<u8>
+    ensures value { unwrap_or result 16 ≡ value_of c }
+    ensures digit { IfSome result (λ d. d < 16) }
 {
-    if c < 48 {
-        return 16;
+    match c {
+        b'0'..=b'9' => Some(c - b'0'),
+        b'a'..=b'f' => Some(c - b'a' + 10),
+        _ => None,
     }
-    if c <= 57 {
-        return c - 48;
-    }
-    if c < 97 {
-        return 16;
-    }
-    if c <= 102 {
-        return c - 87;
-    }
-    16
 }
 
-// Reads a line of as many bytes as a lent buffer has, and answers whether there is one.
-fn read_bytes(text: &[u8], at: usize, bytes: &mut [u8]) -> bool
-    requires { at + (2 * length bytes.old + 1) ≤ length text.now }
-    ensures { unhex (length bytes.old) (drop at text.now) ≡ cond result (some bytes.new) none }
+// Reads a line of N bytes, if there is one.
+fn read_bytes<const N: usize>(text: &[u8], at: usize) -> Option<[u8; N]>
+    requires { at + (2 * N + 1) ≤ length text.now }
+    ensures { unhex N (drop at text.now) ≡ bytes_in result }
 {
+    let mut bytes = [0u8; N];
     let mut from = at;
-    let mut i = 0;
-    while i < bytes.len() {
+    for byte in &mut bytes {
         let high = digit_value(text[from]);
         let low = digit_value(text[from + 1]);
-        if 15 < high {
-            return false;
-        }
-        if 15 < low {
-            return false;
-        }
-        bytes[i] = high * 16 + low;
+        *byte = high? * 16 + low?;
         from += 2;
-        i += 1;
     }
-    text[from] == 10
+    if text[from] == b'\n' {
+        Some(bytes)
+    } else {
+        None
+    }
 }
 
 // ---- numbers
@@ -94,207 +68,121 @@ fn number_in(bytes: &[u8], at: usize, size: usize) -> u64
     ensures { (result ≡ field bytes.now at size) × (result < 256 ^ size) }
 {
     let mut x: u64 = 0;
-    let mut i = size;
-    while 0 < i {
-        i -= 1;
+    for i in (0..size).rev() {
         x = x * 256 + bytes[at + i] as u64;
     }
     x
 }
 
-fn head_in(bytes: &[u8]) -> Head
-    requires { length bytes.now ≡ 23 }
+fn head_in(bytes: &[u8; 23]) -> Head
     ensures { result ≡ head_part (pair_in (numbers_from 0 head_widths bytes.now) []) }
 {
     Head {
-        own: number_in(bytes, 1, 2) as u16,
-        peer: number_in(bytes, 3, 2) as u16,
-        next: FrameNo(number_in(bytes, 5, 2) as u16),
+        own: octets::u16_at(bytes, 1),
+        peer: octets::u16_at(bytes, 3),
+        next: FrameNo(octets::u16_at(bytes, 5)),
         marks: number_in(bytes, 7, 8),
-        lowest: TransNo(number_in(bytes, 15, 4) as u32),
-        closed: number_in(bytes, 19, 4) as u32,
+        lowest: TransNo(octets::u32_at(bytes, 15)),
+        closed: octets::u32_at(bytes, 19),
     }
 }
 
-fn open_in(bytes: &[u8]) -> Open
-    requires { length bytes.now ≡ 16 }
+fn open_in(bytes: &[u8; 16]) -> Open
     ensures { result ≡ open_in (numbers_from 0 open_widths bytes.now) }
 {
     Open {
-        address: number_in(bytes, 4, 4) as u32,
-        value: number_in(bytes, 8, 4) as u32,
-        count: number_in(bytes, 12, 2) as u16,
-        received: number_in(bytes, 14, 2) as u16,
+        address: octets::u32_at(bytes, 4),
+        value: octets::u32_at(bytes, 8),
+        count: octets::u16_at(bytes, 12),
+        received: octets::u16_at(bytes, 14),
     }
 }
 
 // ---- the conditions
 
+#[tactic(auto, unfolding(host_stored::specs::Form::head_fine))]
 fn is_head_fine(h: Head) -> bool
     ensures { result ≡ head_fine (joined h []) }
 {
-    if h.own == 0 {
-        return false;
-    }
-    if h.peer == 0 {
-        return false;
-    }
-    if word64::is_marked(h.marks, 0) {
-        return false;
-    }
-    !word32::is_marked(h.closed, 0)
+    h.own != 0 && h.peer != 0 && !h.marks.is_marked(0) && !h.closed.is_marked(0)
 }
 
+#[tactic(auto, unfolding(host_stored::specs::Form::open_fine))]
 fn is_open_fine(lowest: TransNo, closed: u32, least: u32, number: TransNo, o: Open) -> bool
     ensures { result ≡ open_fine lowest.0 closed least number.0 o }
 {
-    if o.received == 0 {
-        return false;
-    }
-    if o.count <= o.received {
-        return false;
-    }
     let d = number.distance(lowest);
-    if 32 <= d {
-        return false;
-    }
-    if word32::is_marked(closed, d) {
-        return false;
-    }
-    least <= d
+    0 < o.received && o.received < o.count && d < 32 && !closed.is_marked(d) && least <= d
 }
 
 // ---- open transactions
 
-const BAD_LINE: Line = Line {
-    fine: false,
-    number: TransNo(0),
-    entry: host::FREE,
-};
-
-// Reads an open transaction's line.
-fn read_open(text: &[u8], at: usize, lowest: TransNo, closed: u32, least: u32) -> Line
+// Reads an open transaction's line, if there is one that is fine.
+fn read_open(text: &[u8], at: usize, lowest: TransNo, closed: u32, least: u32) -> Option<OpenLine>
     requires { at + 33 ≤ length text.now }
-    ensures { result ≡ line_of lowest.0 closed least (read_line open_widths (drop at text.now)) }
+    ensures { line_in result ≡ line_of lowest.0 closed least (read_line open_widths (drop at text.now)) }
 {
-    let mut bytes = [0u8; 16];
-    if !read_bytes(text, at, &mut bytes) {
-        return BAD_LINE;
-    }
-    let number = TransNo(number_in(&bytes, 0, 4) as u32);
+    let bytes = read_bytes::<16>(text, at)?;
+    let number = TransNo(octets::u32_at(&bytes, 0));
     let entry = open_in(&bytes);
-    if !is_open_fine(lowest, closed, least, number, entry) {
-        return BAD_LINE;
-    }
-    Line {
-        fine: true,
-        number,
-        entry,
+    if is_open_fine(lowest, closed, least, number, entry) {
+        Some(OpenLine { number, entry })
+    } else {
+        None
     }
 }
 
-fn bad_lines() -> Lines
-    ensures { result ≡ bad_lines }
-{
-    Lines {
-        fine: false,
-        table: [host::FREE; 32],
-    }
-}
-
-// Reads the lines of all open transactions, those behind the first line.
-fn read_opens(text: &[u8], lowest: TransNo, closed: u32) -> Lines
+// The table that the lines of all open transactions make, those behind the first line; none where they are not fine.
+fn read_opens(text: &[u8], lowest: TransNo, closed: u32) -> Option<[Open; 32]>
     requires { 47 ≤ length text.now }
-    ensures { result ≡ table_of lowest.0 closed (read_all open_widths (drop 47 text.now)) }
+    ensures { lines_in result ≡ table_of lowest.0 closed (read_all open_widths (drop 47 text.now)) }
 {
     if (text.len() - HEAD) % OPEN != 0 {
-        return bad_lines();
+        return None;
     }
     let mut table = [host::FREE; 32];
     let mut least: u32 = 0;
-    let mut at = HEAD;
-    while at < text.len() {
-        let line = read_open(text, at, lowest, closed, least);
-        if !line.fine {
-            return bad_lines();
-        }
-        let number = line.number;
-        let s = (number.0 % 32) as usize;
-        let entry = line.entry;
-        table[s] = entry;
-        least = number.distance(lowest) + 1;
-        at += OPEN;
+    for at in (HEAD..text.len()).step_by(OPEN) {
+        let line = read_open(text, at, lowest, closed, least)?;
+        table[(line.number.0 % 32) as usize] = line.entry;
+        least = line.number.distance(lowest) + 1;
     }
-    Lines { fine: true, table }
+    Some(table)
 }
 
 // ---- all of it
 
-fn refused() -> Opened
-    ensures { result ≡ refused_reading }
-{
-    let opened = pair::open_pair(0, 0);
-    let pair = opened.pair;
-    Opened {
-        pair,
-        refusal: Refusal {
-            number: refusal::BAD_TEXT,
-            place: 0,
-        },
-    }
-}
-
-// The pair of a first line and the lines behind it, where these are fine.
-fn pair_of(head: Head, lines: Lines) -> Opened
-    ensures { result ≡ cond lines.fine (reading (joined head lines.table)) refused_reading }
-{
-    if !lines.fine {
-        return refused();
-    }
-    let table = lines.table;
-    Opened {
-        pair: Pair {
-            own: head.own,
-            peer: head.peer,
-            next: FrameNo(head.next.0),
-            marks: head.marks,
-            lowest: TransNo(head.lowest.0),
-            closed: head.closed,
-            table,
-        },
-        refusal: Refusal {
-            number: 0,
-            place: 0,
-        },
-    }
-}
-
-// The pair that a text is of; refusal 15 for a text that no pair is stored as.
-fn read(text: &[u8]) -> Opened
-    ensures { result ≡ read_text text.now }
+// The pair that a text is of; none for a text that no pair is stored as.
+fn read(text: &[u8]) -> Option<Pair>
+    ensures { opening (ok_or result BadText) ≡ read_text text.now }
 {
     if text.len() < HEAD {
-        return refused();
+        return None;
     }
-    let mut bytes = [0u8; 23];
-    if !read_bytes(text, 0, &mut bytes) {
-        return refused();
-    }
+    let bytes = read_bytes::<23>(text, 0)?;
     if bytes[0] != VERSION {
-        return refused();
+        return None;
     }
     let head = head_in(&bytes);
     if !is_head_fine(head) {
-        return refused();
+        return None;
     }
-    let lines = read_opens(text, TransNo(head.lowest.0), head.closed);
-    pair_of(head, lines)
+    let table = read_opens(text, head.lowest, head.closed)?;
+    Some(Pair {
+        own: head.own,
+        peer: head.peer,
+        next: head.next,
+        marks: head.marks,
+        lowest: head.lowest,
+        closed: head.closed,
+        table,
+    })
 }
 
-// Makes 67 words hold the pair that a text is of: 0, or refusal 15, and then they hold a fresh pair with both IDs 0.
-// Words of another number stay as they are.
-pub fn restore(words: &mut [u64], text: &[u8]) -> u8
-    ensures { Restores words.old text.now words.new result }
+// Makes 67 words hold the pair that a text is of: refusal 15 where no pair has that text, and then they hold a fresh
+// pair with both IDs 0. Words of another number stay as they are.
+pub fn restore(words: &mut [u64], text: &[u8]) -> Result<(), Reason>
+    ensures { Restores words.old text.now words.new (refusal_number result) }
 {
-    opening::put_opened(words, read(text))
+    opening::put_opening(words, read(text).ok_or(Reason::BadText))
 }

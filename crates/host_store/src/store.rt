@@ -1,7 +1,8 @@
 // Storing the pair that lent words hold, as text in a buffer that the caller lends. Assumes nothing of the words or of
 // the buffer. It promises the answer and every byte of the buffer (host_stored/specs/Form.antt).
-ghost use Rattle.std.specs.Prelude.{◌≡◌, [], ◌∷◌, ◌++◌, ◌+◌, ◌*◌, ◌≤◌, ◌<◌, length};
+ghost use Rattle.std.specs.Prelude.{◌≡◌, [], ◌∷◌, ◌++◌, ◌+◌, ◌*◌, ◌≤◌, ◌<◌, length, IfOk};
 ghost use Rattle.std.proofs.lemmas.List.Edits.{sets};
+ghost use Rattle.refusal.specs.Reason.{refusal_number};
 ghost use Rattle.hexadecimal.specs.Fields.{digit_of, hex, laid, lines_of};
 ghost use Rattle.host_stored.specs.Form.{
   head_widths,
@@ -9,7 +10,6 @@ ghost use Rattle.host_stored.specs.Form.{
   first_line,
   open_line,
   opens_of,
-  not_stored,
   stored_of,
   buffer_of,
 };
@@ -17,18 +17,16 @@ ghost use Rattle.host_words.specs.Words.{pair_of};
 ghost use Rattle.host_store.specs.Lines.{lines_at};
 
 use host::Open;
-use host_stored::{HEAD, OPEN, Stored, VERSION};
+use host_stored::{HEAD, OPEN, VERSION};
 use host_words::describe;
+use refusal::Reason;
 use seq::TransNo;
 
 fn digit(d: u8) -> u8
     requires { d < 16 }
     ensures { result ≡ digit_of d }
 {
-    if d < 10 {
-        return 48 + d;
-    }
-    87 + d
+    if d < 10 { b'0' + d } else { b'a' - 10 + d }
 }
 
 // Puts bytes as a line, and answers the index behind it.
@@ -38,80 +36,38 @@ fn put_line(out: &mut [u8], at: usize, bytes: &[u8]) -> usize
     ensures out_after { out.new ≡ sets out.old at (hex bytes.now ++ (10 ∷ [])) }
 {
     let mut end = at;
-    let mut i = 0;
-    while i < bytes.len() {
-        let b = bytes[i];
+    for b in bytes {
         out[end] = digit(b / 16);
         out[end + 1] = digit(b % 16);
         end += 2;
-        i += 1;
     }
-    out[end] = 10;
+    out[end] = b'\n';
     end + 1
 }
 
 fn head_bytes(words: &[u64]) -> [u8; 23]
     ensures { result ≡ laid head_widths (first_line 1 (pair_of words.now)) }
 {
-    let own = host_words::own(words);
-    let peer = host_words::peer(words);
-    let next = host_words::next(words).0;
-    let marks = host_words::marks(words);
-    let lowest = host_words::lowest(words).0;
-    let closed = host_words::closed(words);
-    [
-        VERSION,
-        (own % 256) as u8,
-        (own / 256 % 256) as u8,
-        (peer % 256) as u8,
-        (peer / 256 % 256) as u8,
-        (next % 256) as u8,
-        (next / 256 % 256) as u8,
-        (marks % 256) as u8,
-        (marks / 256 % 256) as u8,
-        (marks / 256 / 256 % 256) as u8,
-        (marks / 256 / 256 / 256 % 256) as u8,
-        (marks / 256 / 256 / 256 / 256 % 256) as u8,
-        (marks / 256 / 256 / 256 / 256 / 256 % 256) as u8,
-        (marks / 256 / 256 / 256 / 256 / 256 / 256 % 256) as u8,
-        (marks / 256 / 256 / 256 / 256 / 256 / 256 / 256 % 256) as u8,
-        (lowest % 256) as u8,
-        (lowest / 256 % 256) as u8,
-        (lowest / 256 / 256 % 256) as u8,
-        (lowest / 256 / 256 / 256 % 256) as u8,
-        (closed % 256) as u8,
-        (closed / 256 % 256) as u8,
-        (closed / 256 / 256 % 256) as u8,
-        (closed / 256 / 256 / 256 % 256) as u8,
-    ]
+    let mut bytes = [VERSION; 23];
+    bytes[1..3].copy_from_slice(&host_words::own(words).to_le_bytes());
+    bytes[3..5].copy_from_slice(&host_words::peer(words).to_le_bytes());
+    bytes[5..7].copy_from_slice(&host_words::next(words).0.to_le_bytes());
+    bytes[7..15].copy_from_slice(&host_words::marks(words).to_le_bytes());
+    bytes[15..19].copy_from_slice(&host_words::lowest(words).0.to_le_bytes());
+    bytes[19..].copy_from_slice(&host_words::closed(words).to_le_bytes());
+    bytes
 }
 
 fn open_bytes(number: TransNo, o: Open) -> [u8; 16]
     ensures { result ≡ laid open_widths (open_line number.0 o) }
 {
-    let n = number.0;
-    let address = o.address;
-    let value = o.value;
-    let count = o.count;
-    let received = o.received;
-    [
-        (n % 256) as u8,
-        (n / 256 % 256) as u8,
-        (n / 256 / 256 % 256) as u8,
-        (n / 256 / 256 / 256 % 256) as u8,
-        (address % 256) as u8,
-        (address / 256 % 256) as u8,
-        (address / 256 / 256 % 256) as u8,
-        (address / 256 / 256 / 256 % 256) as u8,
-        (value % 256) as u8,
-        (value / 256 % 256) as u8,
-        (value / 256 / 256 % 256) as u8,
-        (value / 256 / 256 / 256 % 256) as u8,
-        (count % 256) as u8,
-        (count / 256 % 256) as u8,
-        (received % 256) as u8,
-        (received / 256 % 256) as u8,
-    ]
+    let mut bytes = [0u8; 16];
+    bytes[..4].copy_from_slice(&number.0.to_le_bytes());
+    bytes[4..8].copy_from_slice(&o.address.to_le_bytes());
+    bytes[8..12].copy_from_slice(&o.value.to_le_bytes());
+    bytes[12..14].copy_from_slice(&o.count.to_le_bytes());
+    bytes[14..].copy_from_slice(&o.received.to_le_bytes());
+    bytes
 }
 
 // Puts the line of the transaction j past the lowest one where it is open, and answers where the next one goes.
@@ -125,9 +81,7 @@ fn put_open(out: &mut [u8], at: usize, words: &[u64], j: u32) -> usize
     if o.received == 0 {
         return at;
     }
-    let number = describe::number_at(words, j);
-    let bytes = open_bytes(number, o);
-    put_line(out, at, &bytes)
+    put_line(out, at, &open_bytes(describe::number_at(words, j), o))
 }
 
 fn put_opens(out: &mut [u8], at: usize, words: &[u64])
@@ -136,42 +90,25 @@ fn put_opens(out: &mut [u8], at: usize, words: &[u64])
         ≡ sets out.old at (lines_of open_widths (opens_of (pair_of words.now))) }
 {
     let mut end = at;
-    let mut j: u32 = 0;
-    while j < 32 {
+    for j in 0..32 {
         end = put_open(out, end, words, j);
-        j += 1;
     }
 }
 
-fn refused(number: u8) -> Stored
-    ensures { result ≡ not_stored number }
-{
-    Stored {
-        refusal: number,
-        length: 0,
-    }
-}
-
-// Stores the pair: 13 where an ID is 0, 19 where the buffer is shorter than the text.
-pub fn store(words: &[u64], buffer: &mut [u8]) -> Stored
-    ensures value { result ≡ stored_of (pair_of words.now) buffer.old }
+// Stores the pair, and gives the text's length: 13 where an ID is 0, 19 where the buffer is shorter than the text.
+pub fn store(words: &[u64], buffer: &mut [u8]) -> Result<usize, Reason>
+    ensures refused { refusal_number result ≡ (stored_of (pair_of words.now) buffer.old).refusal }
+    ensures stored { IfOk result (λ n. n ≡ (stored_of (pair_of words.now) buffer.old).length) }
     ensures buffer_after { buffer.new ≡ buffer_of (pair_of words.now) buffer.old }
 {
-    if host_words::own(words) == 0 {
-        return refused(refusal::ID_ZERO);
-    }
-    if host_words::peer(words) == 0 {
-        return refused(refusal::ID_ZERO);
+    if host_words::own(words) == 0 || host_words::peer(words) == 0 {
+        return Err(Reason::IdZero);
     }
     let size = HEAD + OPEN * describe::count_open(words) as usize;
     if buffer.len() < size {
-        return refused(refusal::BUFFER_SHORT);
+        return Err(Reason::BufferShort);
     }
-    let head = head_bytes(words);
-    let end = put_line(buffer, 0, &head);
+    let end = put_line(buffer, 0, &head_bytes(words));
     put_opens(buffer, end, words);
-    Stored {
-        refusal: 0,
-        length: size,
-    }
+    Ok(size)
 }

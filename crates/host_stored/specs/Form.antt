@@ -10,7 +10,6 @@ use Rattle.host.specs.declared.Pair.{Pair}
 use Rattle.host.specs.declared.Opened.{Opened}
 use Rattle.host.specs.Terms.{free}
 use Rattle.host.specs.Host.{refused_opening}
-use Rattle.host_stored.specs.declared.Stored.{Stored}
 
 -- ---- the form
 
@@ -45,6 +44,11 @@ opens_of p = opens_from 32 0 p.lowest.0 p.table
 
 unfoldable pub text_as : ℕ → Pair → List ℕ
 text_as version p = line_of head_widths (first_line version p) ++ lines_of open_widths (opens_of p)
+
+-- What storing answers: the refusal's number, 0 for none, and the length of the text, 0 where refused.
+pub record Stored : Type 0 where
+  pub refusal : ℕ
+  pub length : ℕ
 
 -- What storing answers, and the lent buffer after it: 13 where an ID is 0, before all else; 19 where the buffer is
 -- shorter than the text; a refusal writes nothing. Number 0 is no refusal.

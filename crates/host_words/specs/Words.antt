@@ -1,7 +1,7 @@
 -- A host's pair in 67 words that a caller lends: the IDs and the next frame, the marks, the transactions' window, and
 -- two words for each entry of the table. Any words at all hold a pair: one that is not there counts as 0, and bits that
 -- have no meaning are not looked at.
-use Rattle.std.specs.Prelude.{ℕ, ◌+◌, ◌*◌, List, get_or}
+use Rattle.std.specs.Prelude.{ℕ, ◌+◌, ◌*◌, ◌≡◌, List, get_or}
 use Rattle.words.specs.Words.{quarter, half, listed}
 use Rattle.host.specs.declared.Open.{Open}
 use Rattle.host.specs.declared.Pair.{Pair}
@@ -39,6 +39,9 @@ pair_of w = record {
 abbrev pub head_part : Pair → Head
 head_part p =
     record { own = p.own; peer = p.peer; next = p.next; marks = p.marks; lowest = p.lowest; closed = p.closed }
+
+abbrev pub HeadOf : Pair → Head → Type 0
+HeadOf p h = h ≡ head_part p
 
 abbrev pub joined : Head → List Open → Pair
 joined h table = record {

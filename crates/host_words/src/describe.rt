@@ -14,22 +14,20 @@ ghost use Rattle.host_words.specs.Describing.{
 };
 
 use host::Open;
-use seq::TransNo;
+use seq::{Serial, TransNo};
 
 // The number of the transaction j past the lowest one.
 pub fn number_at(words: &[u64], j: u32) -> TransNo
     ensures { result.0 ≡ number_at (pair_of words.now) j }
 {
-    let lowest = crate::lowest(words);
-    lowest.advance(j)
+    crate::lowest(words).advance(j)
 }
 
 // Its entry.
 pub fn entry_at(words: &[u64], j: u32) -> Open
     ensures { result ≡ entry_at (pair_of words.now) j }
 {
-    let number = number_at(words, j);
-    crate::entry(words, number)
+    crate::entry(words, number_at(words, j))
 }
 
 // How many transactions are open.
@@ -37,18 +35,17 @@ pub fn count_open(words: &[u64]) -> u32
     ensures { result ≡ open_count 32 0 (pair_of words.now) }
 {
     let mut count: u32 = 0;
-    let mut j: u32 = 0;
-    while j < 32 {
+    for j in 0..32u32 {
         let o = entry_at(words, j);
         if 0 < o.received {
             count += 1;
         }
-        j += 1;
     }
     count
 }
 
-// Stores the five words of an open transaction.
+// Stores the five words of an open transaction. One by one, here and in the head: tried by copy_from_slice, and the
+// proof did not close.
 fn put_five(out: &mut [u64], at: usize, number: TransNo, o: Open)
     requires { at + 5 ≤ length out.old }
     ensures { out.new ≡ sets out.old at (five number.0 o) }
@@ -93,10 +90,8 @@ pub fn describe(words: &[u64]) -> [u64; 167]
     let mut out = [0u64; 167];
     put_head(&mut out, words, count_open(words));
     let mut at: usize = 7;
-    let mut j: u32 = 0;
-    while j < 32 {
+    for j in 0..32u32 {
         at = put_open(&mut out, at, words, j);
-        j += 1;
     }
     out
 }

@@ -9,19 +9,17 @@ pub mod pair;
 pub mod update;
 
 ghost use Rattle.std.specs.Prelude.{◌≡◌, ◌%◌};
-ghost use Rattle.host_words.specs.Words.{entry_in, entry_of, pair_of};
+ghost use Rattle.host_words.specs.Words.{entry_in, entry_of, pair_of, HeadOf};
 
-use host::Open;
+use host::{Open, Pair};
 use seq::{FrameNo, TransNo};
 
-// A pair takes words of this length.
+// A pair takes words of this length. The functions take a slice of any length, and not an array: what they promise of
+// other lengths stays.
 pub const WORDS: usize = 67;
 
-// The answer to words of another length: no refusal of the rules.
-pub const OTHER_LENGTH: u8 = 255;
-
 // What a pair has before the table.
-#[derive(Clone, Copy)]
+#[derive(Clone, Copy, Debug, PartialEq, Eq, Hash)]
 pub struct Head {
     pub own: u16,
     pub peer: u16,
@@ -29,6 +27,21 @@ pub struct Head {
     pub marks: u64,
     pub lowest: TransNo,
     pub closed: u32,
+}
+
+impl From<Pair> for Head {
+    ghost from_gives = { HeadOf };
+
+    fn from(p: Pair) -> Head {
+        Head {
+            own: p.own,
+            peer: p.peer,
+            next: p.next,
+            marks: p.marks,
+            lowest: p.lowest,
+            closed: p.closed,
+        }
+    }
 }
 
 pub fn own(w: &[u64]) -> u16

@@ -6,24 +6,19 @@ ghost use Rattle.host_words.specs.Packing.{HoldsTable, Holds};
 
 use crate::{Head, update};
 use host::{Open, Pair};
-use seq::{FrameNo, TransNo};
+use seq::TransNo;
 
 // The table of the words.
 fn table_of(w: &[u64]) -> [Open; 32]
     ensures { result ≡ (pair_of w.now).table }
 {
-    let mut table = [host::FREE; 32];
-    for i in 0..32usize {
-        table[i] = crate::entry(w, TransNo(i as u32));
-    }
-    table
+    std::array::from_fn(|i| crate::entry(w, TransNo(i as u32)))
 }
 
 // The pair that the words hold.
 pub fn unpack(w: &[u64]) -> Pair
     ensures { result ≡ pair_of w.now }
 {
-    let table = table_of(w);
     Pair {
         own: crate::own(w),
         peer: crate::peer(w),
@@ -31,16 +26,15 @@ pub fn unpack(w: &[u64]) -> Pair
         marks: crate::marks(w),
         lowest: crate::lowest(w),
         closed: crate::closed(w),
-        table,
+        table: table_of(w),
     }
 }
 
 fn put_table(w: &mut [u64], table: [Open; 32])
     ensures { HoldsTable w.old w.new table }
 {
-    for i in 0..32usize {
-        let o = table[i];
-        update::put_entry(w, TransNo(i as u32), o);
+    for (i, o) in table.iter().enumerate() {
+        update::put_entry(w, TransNo(i as u32), *o);
     }
 }
 
@@ -51,15 +45,6 @@ pub fn pack(w: &mut [u64], p: Pair)
     if w.len() != crate::WORDS {
         return;
     }
-    let head = Head {
-        own: p.own,
-        peer: p.peer,
-        next: FrameNo(p.next.0),
-        marks: p.marks,
-        lowest: TransNo(p.lowest.0),
-        closed: p.closed,
-    };
-    update::put_head(w, head);
-    let table = p.table;
-    put_table(w, table);
+    update::put_head(w, Head::from(p));
+    put_table(w, p.table);
 }

@@ -1,9 +1,12 @@
 // Opening a pair, and the acknowledgement that an answer calls for, by value. Assumes nothing. It promises
 // host/specs/Host.antt, opened_of and acknowledgement_of.
-ghost use Rattle.std.specs.Prelude.{◌≡◌};
+ghost use Rattle.std.specs.Prelude.{◌≡◌, IfOk, IfErr};
+ghost use Rattle.refusal.specs.Reason.{number};
 ghost use Rattle.host.specs.Host.{fresh, refused_opening, opened_of, range_of, acknowledgement_from, acknowledgement_of};
+ghost use Rattle.host_words.specs.Opening.{opening};
 
 use host::{Acknowledgement, Answer, Opened, Pair, Range, Refusal};
+use refusal::Reason;
 use seq::{FrameNo, TransNo};
 use wire_write::headers;
 
@@ -12,7 +15,7 @@ const NO_RANGE: Range = Range {
     count: 0,
 };
 
-fn fresh_pair(own: u16, peer: u16) -> Pair
+pub(crate) fn fresh_pair(own: u16, peer: u16) -> Pair
     ensures { result ≡ fresh own peer }
 {
     Pair {
@@ -26,36 +29,53 @@ fn fresh_pair(own: u16, peer: u16) -> Pair
     }
 }
 
-// A refused opening: a fresh pair with both IDs 0.
-fn refused_opening() -> Opened
-    ensures { result ≡ refused_opening }
+// Refuses an ID 0.
+pub(crate) fn check_ids(own: u16, peer: u16) -> Result<(), Reason>
+    ensures allowed { IfOk result (λ done. opened_of own peer
+        ≡ record { pair = fresh own peer; refusal = record { number = 0; place = 0 } }) }
+    ensures refused { IfErr result (λ reason. (number reason ≡ 13) × (opened_of own peer ≡ refused_opening)) }
 {
-    Opened {
-        pair: fresh_pair(0, 0),
-        refusal: Refusal {
-            number: refusal::ID_ZERO,
-            place: 0,
+    if own == 0 || peer == 0 {
+        return Err(Reason::IdZero);
+    }
+    Ok(())
+}
+
+// Opens a pair; refusal 13 where an ID is 0.
+pub(crate) fn open(own: u16, peer: u16) -> Result<Pair, Reason>
+    ensures { opening result ≡ opened_of own peer }
+{
+    check_ids(own, peer)?;
+    Ok(fresh_pair(own, peer))
+}
+
+// A pair that was opened or read, or its refusal, with a pair in either case: one with both IDs 0 where it was refused.
+pub fn opened(opened: Result<Pair, Reason>) -> Opened
+    ensures { result ≡ opening opened }
+{
+    match opened {
+        Ok(pair) => Opened {
+            pair,
+            refusal: Refusal {
+                number: 0,
+                place: 0,
+            },
+        },
+        Err(reason) => Opened {
+            pair: fresh_pair(0, 0),
+            refusal: Refusal {
+                number: reason.number(),
+                place: 0,
+            },
         },
     }
 }
 
-// Opens a pair; refusal 13 where an ID is 0.
+// Opens a pair by value; refusal 13 where an ID is 0.
 pub fn open_pair(own: u16, peer: u16) -> Opened
     ensures { result ≡ opened_of own peer }
 {
-    if own == 0 {
-        return refused_opening();
-    }
-    if peer == 0 {
-        return refused_opening();
-    }
-    Opened {
-        pair: fresh_pair(own, peer),
-        refusal: Refusal {
-            number: 0,
-            place: 0,
-        },
-    }
+    opened(open(own, peer))
 }
 
 // The frame numbers that an answer acknowledges.
@@ -63,14 +83,8 @@ fn range_of(answer: Answer) -> Range
     ensures { result ≡ range_of answer }
 {
     match answer {
-        Answer::Accepted(n, _, run) => Range {
-            start: n,
-            count: run,
-        },
-        Answer::Again(n, run) => Range {
-            start: n,
-            count: run,
-        },
+        Answer::Accepted(start, _, count) => Range { start, count },
+        Answer::Again(start, count) => Range { start, count },
         Answer::NoMessages => NO_RANGE,
         Answer::Refused(_) => NO_RANGE,
     }
@@ -82,11 +96,7 @@ pub fn acknowledge_from(own: u16, peer: u16, answer: Answer, number: FrameNo) ->
     ensures { result ≡ acknowledgement_from own peer answer number.0 }
 {
     let range = range_of(answer);
-    let start = range.start;
-    Acknowledgement {
-        due: 0 < range.count,
-        frame: headers::ack_frame(peer, own, number, start, range.count),
-    }
+    (0 < range.count).then_some(headers::ack_frame(peer, own, number, range.start, range.count))
 }
 
 // The same from a pair's own end.

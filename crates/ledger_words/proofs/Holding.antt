@@ -1,9 +1,10 @@
 -- The ledger that words hold, subscriber by subscriber: read, and after its words are stored anew. Assumes nothing.
-use Rattle.std.proofs.Common.{◌≡◌, ℕ, ◌+◌, ◌*◌, ◌%◌, ◌<◌, true, false, cond, leb, ◌≢◌, List, length, get_or, set, sym, refl, ap, ◌∙◌, arith, length-set, get_or-set_other, get_or-set_same, le-leb}
+use Rattle.std.proofs.Common.{◌≡◌, ℕ, zero, suc, ◌+◌, ◌*◌, ◌%◌, ◌<◌, true, false, cond, leb, ◌≢◌, List, length, get_or, replicate, set, sym, refl, ap, ◌∙◌, arith, length-set, get_or-set_other, get_or-set_same, le-leb}
 use Rattle.seq.specs.Ring.{distance}
 use Rattle.words.proofs.Listed.{listed_at, listed_same, listed-set, listed-all}
 use Rattle.ledger.specs.Ledger.{Ledger, ledger_of, subscribers, counter_space, reading_of, seen_of, counter_of, total_of}
-use Rattle.ledger.specs.Ledger.{empty, charge, entered}
+use Rattle.ledger.specs.Ledger.{empty, charge, fault, entered}
+use Rattle.ledger.proofs.Steps.{clear}
 use Rattle.ledger_words.specs.LedgerWords.{ledger_words, total_in, counter_in, read_in, accounts_in, ledger_in}
 
 -- ---- read
@@ -41,6 +42,15 @@ module _ (w : List ℕ) where
 
   pub held-total : (s : ℕ) → s < subscribers → total_of (ledger_in w) s ≡ total_in w s
   held-total s h = ap (λ (l : Ledger). total_of l s) (sym held-beside) ∙ total-at w (get_or w 2048 0) s h
+
+-- ---- the two words of a reading without a fault
+
+module _ (w : List ℕ) (n s c : ℕ) (e : fault (accounts_in w n) (reading_of s c) ≡ 0) where
+  pub first_word : 2 * s < ledger_words
+  first_word = omega (arith, (clear _ _ e).known)
+
+  pub second_word : 2 * s + 1 < ledger_words
+  second_word = omega (arith, (clear _ _ e).known)
 
 -- ---- a subscriber's two words stored anew
 
@@ -113,7 +123,7 @@ sum-stored w n l =
           (λ j a b. get_or-set_other w 2048 (2 * j) n 0 (λ z. omega arith)),
     )
 
-pub all-zero : (w : List ℕ) → ((i : ℕ) → get_or w i 0 ≡ 0) → ledger_in w ≡ empty
+all-zero : (w : List ℕ) → ((i : ℕ) → get_or w i 0 ≡ 0) → ledger_in w ≡ empty
 unfolding accounts_in ledger_in empty
 all-zero w h =
     rw (
@@ -122,3 +132,11 @@ all-zero w h =
       listed-all (counter_in w) 0 subscribers 0 (λ j. ap (λ (x : ℕ). x % counter_space) (h (2 * j + 1))),
       listed-all (total_in w) 0 subscribers 0 (λ j. h (2 * j)),
     )
+
+pub zeroed : (n : ℕ) → ledger_in (replicate {A = ℕ} n 0) ≡ empty
+zeroed n = all-zero (replicate {A = ℕ} n 0) (each n)
+  where
+    each : (n i : ℕ) → get_or {A = ℕ} (replicate n 0) i 0 ≡ 0
+    each zero i = refl
+    each (suc n) zero = refl
+    each (suc n) (suc i) = each n i

@@ -1,5 +1,6 @@
 pub mod Room
 pub mod Loops
 pub mod Holding
-pub mod Storing
 pub mod Telling
+pub mod Adding
+pub mod Taking

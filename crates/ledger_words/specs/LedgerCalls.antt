@@ -1,8 +1,7 @@
 -- What is promised of opening a ledger in 2,049 words and of taking a block there, and of any other number of words;
 -- and what a caller is told of a subscriber. Assumes nothing.
-use Rattle.std.specs.Prelude.{◌≡◌, ℕ, true, false, cond, ◌≢◌, List, length}
+use Rattle.std.specs.Prelude.{◌≡◌, ℕ, Bool, true, false, cond, ◌≢◌, List, length, Option, None, Some}
 use Rattle.ledger.specs.Ledger.{Ledger, Outcome, seen_of, total_of, empty, taken}
-use Rattle.ledger_words.specs.declared.SubscriberTotal.{SubscriberTotal}
 use Rattle.ledger_words.specs.LedgerWords.{ledger_words, ledger_in}
 
 abbrev pub other_length : ℕ
@@ -23,6 +22,14 @@ abbrev pub TakesBlock : List ℕ → List ℕ → List ℕ → ℕ → Type 0
 TakesBlock w block left r = HoldsLedger w (taken (ledger_in w) block) left r × (r ≢ 0 → left ≡ w)
 
 -- A subscriber's total, with whether it was ever read. There is none for one that was not.
+pub record SubscriberTotal : Type 0 where
+  pub read : Bool
+  pub bytes : ℕ
+
 unfoldable pub told_total : Ledger → ℕ → SubscriberTotal
 told_total l s =
     cond (seen_of l s) (record { read = true; bytes = total_of l s }) (record { read = false; bytes = 0 })
+
+-- The bytes of one that was read.
+abbrev pub if_read : SubscriberTotal → Option ℕ
+if_read total = cond total.read (Some total.bytes) None

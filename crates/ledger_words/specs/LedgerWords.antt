@@ -5,7 +5,7 @@
 -- there counts as 0.
 use Rattle.std.specs.Prelude.{ℕ, ◌+◌, ◌*◌, ◌%◌, Bool, List, nat_le, slice_index}
 use Rattle.words.specs.Words.{listed}
-use Rattle.ledger.specs.Ledger.{Ledger, ledger_of, subscribers, counter_space}
+use Rattle.ledger.specs.Ledger.{Ledger, Reading, ledger_of, subscribers, counter_space, reading_at}
 
 abbrev pub ledger_words : ℕ
 ledger_words = 2049
@@ -28,3 +28,7 @@ accounts_in w sum =
 -- The ledger that the words hold.
 unfoldable pub ledger_in : List ℕ → Ledger
 ledger_in w = accounts_in w (slice_index w 2048)
+
+-- The reading that eight bytes hold.
+abbrev pub reading_in : List ℕ → Reading
+reading_in bytes = reading_at bytes 0

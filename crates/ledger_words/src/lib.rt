@@ -4,70 +4,52 @@
 // It promises what the definitions of the crate ledger say of the ledger that the words hold (specs/LedgerCalls.antt).
 #![tactic(auto)]
 
-ghost use Rattle.std.specs.Prelude.{◌≡◌, ◌+◌, ◌*◌, ◌%◌, ◌<◌, ◌≤◌, length, if◌then◌else◌, nat_le};
+ghost use Rattle.std.specs.Prelude.{◌≡◌, ◌%◌, if◌then◌else◌, map, nat_le};
 ghost use Rattle.seq.specs.Ring.{distance};
-ghost use Rattle.octets.specs.Octets.{field};
-ghost use Rattle.ledger.specs.Ledger.{counter_space, reading_of, reading_at, readings_of};
-ghost use Rattle.ledger.specs.Ledger.{fault, entered, entered_all, taken};
-ghost use Rattle.ledger_words.specs.LedgerWords.{ledger_words, accounts_in, ledger_in};
+ghost use Rattle.ledger.specs.Ledger.{counter_space, reading_of, fault, entered, entered_all};
+ghost use Rattle.ledger_words.specs.LedgerWords.{accounts_in, ledger_in, reading_in};
 ghost use Rattle.ledger_words.specs.Room.{room_for};
-ghost use Rattle.ledger_words.specs.LedgerCalls.{OpensLedger, TakesBlock, told_total};
+ghost use Rattle.ledger_words.specs.LedgerCalls.{OpensLedger, TakesBlock, if_read, told_total};
+ghost use Rattle.refusal.specs.Reason.{refusal_number};
 
-// A ledger takes this many words; a call that is lent another number of words answers 255.
+use refusal::Reason;
+
+// A ledger takes this many words; a call that is lent another number of words is refused.
 pub const LEDGER_WORDS: usize = 2049;
-
-pub const OTHER_LENGTH: u8 = 255;
 
 // The word that is the sum.
 const SUM: usize = 2048;
 
 const SUBSCRIBERS: u32 = 1024;
 // Once a subscriber was read, its second word is this plus its last counter.
-const READ: u64 = 4294967296;
+const READ: u64 = 1 << 32;
 
-// The most that 64 bits hold, and 2^63.
-const MOST: u64 = 18446744073709551615;
-
-const HALF: u64 = 9223372036854775808;
 // So many readings add less than HALF.
-const READINGS_MOST: usize = 2147483648;
+const READINGS_MOST: usize = 1 << 31;
 
-// What is charged to a subscriber, and whether it was ever read.
-#[derive(Clone, Copy)]
-pub struct SubscriberTotal {
-    pub read: bool,
-    pub bytes: u64,
-}
+const HALF: u64 = 1 << 63;
+
+// All the words of a ledger.
+type Words = [u64; LEDGER_WORDS];
 
 // ---- one reading
 
-fn wide32(b: u8) -> u32
-    ensures { (result ≡ b) × (result < 256) }
-{
-    b as u32
+// What a subscriber's counter told.
+#[derive(Clone, Copy, Debug, PartialEq, Eq)]
+struct Reading {
+    subscriber: u32,
+    counter: u32,
 }
 
-// A number of four bytes.
-fn u32_in(f: &[u8], at: usize) -> u32
-    requires { at + 4 ≤ length f.now }
-    ensures { result ≡ field f.now at 4 }
-{
-    wide32(f[at]) + 256 * (wide32(f[at + 1]) + 256 * (wide32(f[at + 2]) + 256 * wide32(f[at + 3])))
-}
-
-// The subscriber of reading k, and its counter.
-fn subscriber_at(block: &[u8], k: usize) -> u32
-    requires { 8 * k + 8 ≤ length block.now }
-    ensures { result ≡ (reading_at block.now k).subscriber }
-{
-    u32_in(block, 8 * k)
-}
-
-fn counter_at(block: &[u8], k: usize) -> u32
-    requires { 8 * k + 8 ≤ length block.now }
-    ensures { result ≡ (reading_at block.now k).counter }
-{
-    u32_in(block, 8 * k + 4)
+impl Reading {
+    fn of(bytes: &[u8; 8]) -> Reading
+        ensures { reading_of result.subscriber result.counter ≡ reading_in bytes.now }
+    {
+        Reading {
+            subscriber: octets::u32_at(bytes, 0),
+            counter: octets::u32_at(bytes, 4),
+        }
+    }
 }
 
 // What a reading charges to a subscriber whose second word is `kept`.
@@ -77,40 +59,36 @@ fn charge_of(kept: u64, counter: u32) -> u64
     if kept < READ {
         return 0;
     }
-    std::num::wrapping_sub_u32(counter, (kept % READ) as u32) as u64
+    u64::from(counter.wrapping_sub((kept % READ) as u32))
 }
 
-// The fault of one reading, or 0. The sum is given apart: while a block is entered, the one in the words is old.
-fn fault_of(words: &[u64], sum: u64, subscriber: u32, counter: u32) -> u8
-    requires { length words.now ≡ ledger_words }
-    ensures { result ≡ fault (accounts_in words.now sum) (reading_of subscriber counter) }
+// What a reading is refused for. The sum is given apart: while a block is entered, the one in the words is old.
+fn check_reading(words: &Words, sum: u64, reading: Reading) -> Result<(), Reason>
+    ensures { refusal_number result
+        ≡ fault (accounts_in words.now sum) (reading_of reading.subscriber reading.counter) }
 {
-    if SUBSCRIBERS <= subscriber {
-        return refusal::UNKNOWN_SUBSCRIBER;
+    if SUBSCRIBERS <= reading.subscriber {
+        return Err(Reason::UnknownSubscriber);
     }
-    let at = 2 * subscriber as usize;
-    let charge = charge_of(words[at + 1], counter);
-    if MOST - charge < words[at] {
-        return refusal::PAST_64_BITS;
-    }
-    if MOST - charge < sum {
-        return refusal::PAST_64_BITS;
-    }
-    0
+    let at = 2 * reading.subscriber as usize;
+    let charge = charge_of(words[at + 1], reading.counter);
+    words[at].checked_add(charge).ok_or(Reason::Past64Bits)?;
+    sum.checked_add(charge).ok_or(Reason::Past64Bits)?;
+    Ok(())
 }
 
 // Enters one reading that has no fault into its subscriber's words, and answers the new sum. A first reading charges 0
 // and is stored as any other.
-fn enter(words: &mut [u64], sum: u64, subscriber: u32, counter: u32) -> u64
-    requires { (length words.old ≡ ledger_words)
-        × (fault (accounts_in words.old sum) (reading_of subscriber counter) ≡ 0) }
+#[tactic(auto, using(crate::proofs::Holding::first_word, crate::proofs::Holding::second_word))]
+fn enter(words: &mut Words, sum: u64, reading: Reading) -> u64
+    requires { fault (accounts_in words.old sum) (reading_of reading.subscriber reading.counter) ≡ 0 }
     ensures { accounts_in words.new result
-        ≡ entered (accounts_in words.old sum) (reading_of subscriber counter) }
+        ≡ entered (accounts_in words.old sum) (reading_of reading.subscriber reading.counter) }
 {
-    let at = 2 * subscriber as usize;
-    let charge = charge_of(words[at + 1], counter);
-    words[at] = words[at] + charge;
-    words[at + 1] = READ + counter as u64;
+    let at = 2 * reading.subscriber as usize;
+    let charge = charge_of(words[at + 1], reading.counter);
+    words[at] += charge;
+    words[at + 1] = READ + u64::from(reading.counter);
     sum + charge
 }
 
@@ -118,154 +96,102 @@ fn enter(words: &mut [u64], sum: u64, subscriber: u32, counter: u32) -> u64
 
 // Whether a look at the block's subscribers shows that no reading can have a fault. Their numbers and their totals are
 // or-ed and compared once, at the end, so that no reading costs a branch.
-fn has_room(words: &[u64], block: &[u8]) -> bool
-    requires { length words.now ≡ ledger_words }
-    ensures { result ≡ room_for (ledger_in words.now) (readings_of block.now) }
+fn has_room(words: &Words, block: &[[u8; 8]]) -> bool
+    ensures { result ≡ room_for (ledger_in words.now) (map reading_in block.now) }
 {
-    let n = block.len() / 8;
-    if READINGS_MOST < n {
+    if READINGS_MOST < block.len() || HALF <= words[SUM] {
         return false;
     }
-    if HALF <= words[SUM] {
-        return false;
+    let mut any = 0;
+    let mut high = 0;
+    for bytes in block {
+        let subscriber = Reading::of(bytes).subscriber;
+        any |= subscriber;
+        high |= words[2 * (subscriber % SUBSCRIBERS) as usize];
     }
-    let mut any: u32 = 0;
-    let mut high: u64 = 0;
-    let mut k = 0;
-    while k < n {
-        let subscriber = subscriber_at(block, k);
-        any = any | subscriber;
-        high = high | words[2 * (subscriber % SUBSCRIBERS) as usize];
-        k += 1;
-    }
-    if SUBSCRIBERS <= any {
-        return false;
-    }
-    high < HALF
+    any < SUBSCRIBERS && high < HALF
 }
 
-// A ledger's words as an array.
-fn copy_of(words: &[u64]) -> [u64; 2049]
-    requires { length words.now ≡ ledger_words }
-    ensures { result ≡ words.now }
+// The first fault of the block's readings: they are entered into a copy.
+fn first_fault(words: &Words, block: &[[u8; 8]]) -> Result<(), Reason>
+    ensures { refusal_number result
+        ≡ (entered_all (ledger_in words.now) (map reading_in block.now)).refusal }
 {
-    let mut copy = [0u64; 2049];
-    let mut i: usize = 0;
-    while i < LEDGER_WORDS {
-        copy[i] = words[i];
-        i += 1;
-    }
-    copy
-}
-
-// The first fault of the block's readings, or 0: they are entered into a copy.
-fn first_fault(words: &[u64], block: &[u8]) -> u8
-    requires { length words.now ≡ ledger_words }
-    ensures { result ≡ (entered_all (ledger_in words.now) (readings_of block.now)).refusal }
-{
-    let mut copy = copy_of(words);
+    let mut copy = *words;
     let mut sum = words[SUM];
-    let n = block.len() / 8;
-    let mut k = 0;
-    while k < n {
-        let subscriber = subscriber_at(block, k);
-        let counter = counter_at(block, k);
-        let number = fault_of(&copy, sum, subscriber, counter);
-        if number != 0 {
-            return number;
-        }
-        sum = enter(&mut copy, sum, subscriber, counter);
-        k += 1;
+    for bytes in block {
+        let reading = Reading::of(bytes);
+        check_reading(&copy, sum, reading)?;
+        sum = enter(&mut copy, sum, reading);
     }
-    0
+    Ok(())
 }
 
-// The refusal of the block, or 0. The copy of the ledger is made only where the quick test fails.
-fn judge(words: &[u64], block: &[u8]) -> u8
-    requires { length words.now ≡ ledger_words }
-    ensures { result ≡ (taken (ledger_in words.now) block.now).refusal }
+// What the block is refused for. The copy of the ledger is made only where the quick test fails.
+fn check_block(words: &Words, block: &[[u8; 8]]) -> Result<(), Reason>
+    ensures { refusal_number result
+        ≡ (entered_all (ledger_in words.now) (map reading_in block.now)).refusal }
 {
-    if block.len() % 8 != 0 {
-        return refusal::NOT_WHOLE_READINGS;
-    }
     if has_room(words, block) {
-        return 0;
+        return Ok(());
     }
     first_fault(words, block)
 }
 
 // Enters the block's readings, none of which has a fault. The sum is stored once, at the end.
-fn enter_all(words: &mut [u64], block: &[u8])
-    requires { (length words.old ≡ ledger_words)
-        × ((entered_all (ledger_in words.old) (readings_of block.now)).refusal ≡ 0) }
+fn enter_all(words: &mut Words, block: &[[u8; 8]])
+    requires { (entered_all (ledger_in words.old) (map reading_in block.now)).refusal ≡ 0 }
     ensures { ledger_in words.new
-        ≡ (entered_all (ledger_in words.old) (readings_of block.now)).ledger }
+        ≡ (entered_all (ledger_in words.old) (map reading_in block.now)).ledger }
 {
-    let n = block.len() / 8;
     let mut sum = words[SUM];
-    let mut k = 0;
-    while k < n {
-        let subscriber = subscriber_at(block, k);
-        let counter = counter_at(block, k);
-        sum = enter(words, sum, subscriber, counter);
-        k += 1;
+    for bytes in block {
+        sum = enter(words, sum, Reading::of(bytes));
     }
     words[SUM] = sum;
 }
 
 // ---- for callers
 
-// Makes the ledger empty, and answers 0.
-pub fn open(words: &mut [u64]) -> u8
-    ensures { OpensLedger words.old words.new result }
+// Makes the ledger empty.
+pub fn open(words: &mut [u64]) -> Result<(), Reason>
+    ensures { OpensLedger words.old words.new (refusal_number result) }
 {
     if words.len() != LEDGER_WORDS {
-        return OTHER_LENGTH;
+        return Err(Reason::OtherLength);
     }
-    let mut at: usize = 0;
-    while at < LEDGER_WORDS {
-        words[at] = 0;
-        at += 1;
-    }
-    0
+    words.fill(0);
+    Ok(())
 }
 
-// Takes a block of readings: 0, or the refusal, and then no word changes.
-pub fn take(words: &mut [u64], block: &[u8]) -> u8
-    ensures { TakesBlock words.old block.now words.new result }
+// Takes a block of readings. Where it is refused, no word changes.
+pub fn take(words: &mut [u64], block: &[u8]) -> Result<(), Reason>
+    ensures { TakesBlock words.old block.now words.new (refusal_number result) }
 {
-    if words.len() != LEDGER_WORDS {
-        return OTHER_LENGTH;
+    let Some(words) = words.as_mut_array() else {
+        return Err(Reason::OtherLength);
+    };
+    let (readings, rest) = block.as_chunks();
+    if !rest.is_empty() {
+        return Err(Reason::NotWholeReadings);
     }
-    let refusal = judge(words, block);
-    if refusal != 0 {
-        return refusal;
-    }
-    enter_all(words, block);
-    0
+    check_block(words, readings)?;
+    enter_all(words, readings);
+    Ok(())
 }
 
 // What is charged to a subscriber: nothing where it was never read, or is not below 1,024.
-pub fn total(w: &[u64], subscriber: u32) -> SubscriberTotal
-    ensures { result ≡ told_total (ledger_in w.now) subscriber }
+pub fn total(w: &[u64], subscriber: u32) -> Option<u64>
+    ensures { result ≡ if_read (told_total (ledger_in w.now) subscriber) }
 {
     if SUBSCRIBERS <= subscriber {
-        return SubscriberTotal {
-            read: false,
-            bytes: 0,
-        };
+        return None;
     }
     let at = 2 * subscriber as usize;
     if words::word(w, at + 1) < READ {
-        return SubscriberTotal {
-            read: false,
-            bytes: 0,
-        };
+        return None;
     }
-    SubscriberTotal {
-        read: true,
-        bytes: words::word(w, at),
-    }
+    Some(words::word(w, at))
 }
 
 // The sum of what is charged to all subscribers.

@@ -9,10 +9,8 @@ use lib.Dec.{eqb}
 use lib.ListN.{length}
 use Rattle.card.specs.Card.{is_ack, choose_refusal}
 use Rattle.card_words.specs.Words.{card_of}
-use Rattle.card_send.specs.declared.show.Showing.{Showing}
-use Rattle.card_send.specs.Parts.{shown_part}
-use Rattle.card_send.specs.declared.choose.Choice.{Choice}
-use Rattle.card_send.specs.Choices.{chosen_part}
+use Rattle.card_send.specs.Parts.{Showing, shown_part}
+use Rattle.card_send.specs.Choices.{Choice, chosen_part}
 use Rattle.logwhisker.specs.Face.{frame_shown, next_chosen}
 
 showing-carries : (r : ℕ) (x y : Showing) → x.refusal ≡ 0 → y.refusal ≡ r → (cond (eqb r 0) x y).refusal ≡ r

@@ -1,14 +1,13 @@
 -- What the library's functions answer and leave, said by the very ends that the theorem of delivery is about: each
 -- line is a field of `specified_host`, `specified_card`, `specified_store` or `specified_table`, on what the lent
 -- words hold.
-use Rattle.std.specs.Prelude.{ℕ, ◌≡◌, ◌≢◌, List, []}
+use Rattle.std.specs.Prelude.{ℕ, ◌≡◌, ◌≢◌, List, [], Option}
 use Rattle.host.specs.declared.Answer.{Answer}
 use Rattle.host.specs.declared.Opened.{Opened}
-use Rattle.host.specs.declared.Acknowledgement.{Acknowledgement}
 use Rattle.host.specs.Host.{Received, acknowledgement_from}
 use Rattle.host_words.specs.Words.{pair_of}
 use Rattle.card_words.specs.Words.{card_of}
-use Rattle.host_stored.specs.declared.Stored.{Stored}
+use Rattle.host_stored.specs.Form.{Stored}
 use Rattle.delivery.specs.System.{CardResult, specified_card, specified_host}
 use Rattle.delivery_restarts.specs.Restarts.{specified_store}
 use Rattle.table.specs.Table.{TableStep, TableReceived}
@@ -16,9 +15,8 @@ use Rattle.table.specs.Adopting.{TakenOut}
 use Rattle.table.specs.TableEnd.{specified_table}
 use Rattle.table_words.specs.TableWords.{table_of}
 use Rattle.ledger.specs.Ledger.{Outcome, taken}
-use Rattle.ledger_words.specs.declared.SubscriberTotal.{SubscriberTotal}
 use Rattle.ledger_words.specs.LedgerWords.{ledger_in}
-use Rattle.ledger_words.specs.LedgerCalls.{told_total}
+use Rattle.ledger_words.specs.LedgerCalls.{SubscriberTotal, told_total}
 
 -- ---- the host
 
@@ -28,7 +26,7 @@ host_opened own peer = specified_host.host_opening own peer
 abbrev pub received : List ℕ → List ℕ → List ℕ → Received
 received words frame memory = specified_host.receiving (pair_of words) frame memory
 
-abbrev pub acknowledgement : List ℕ → Answer → ℕ → Acknowledgement
+abbrev pub acknowledgement : List ℕ → Answer → ℕ → Option (List ℕ)
 acknowledgement words answer number = specified_host.acknowledging (pair_of words) answer number
 
 -- Storing into a lent buffer, the buffer after it, and reading a text: the store that the theorem over restarts is
@@ -85,7 +83,7 @@ abbrev pub received_at_table : List ℕ → List ℕ → List ℕ → TableRecei
 received_at_table words frame memory = specified_table.receiving (table_of words) frame memory
 
 -- To the source that is given; where that is a frame's own, it is the acknowledging of `specified_table`.
-abbrev pub card_acknowledgement : List ℕ → ℕ → Answer → ℕ → Acknowledgement
+abbrev pub card_acknowledgement : List ℕ → ℕ → Answer → ℕ → Option (List ℕ)
 card_acknowledgement words source answer number = acknowledgement_from (table_of words).own source answer number
 
 abbrev pub card_taken : List ℕ → ℕ → TakenOut

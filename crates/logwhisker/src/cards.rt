@@ -17,8 +17,10 @@ ghost use Rattle.logwhisker.specs.Face.{
   card_taken,
   card_adopted,
 };
+ghost use Rattle.refusal.specs.Reason.{refusal_number};
 
 use host::{Acknowledgement, Answer};
+use refusal::Reason;
 use seq::FrameNo;
 use table_receive::acknowledge;
 pub use table_receive::acknowledge::source_of;
@@ -30,8 +32,8 @@ use table_words::describe;
 // them unless it accepts.
 
 // Opens a table; 13 where our ID is 0.
-pub fn open(words: &mut [u64; 1121], own: u16) -> u8
-    ensures value { result ≡ (table_opened own).refusal }
+pub fn open(words: &mut [u64; 1121], own: u16) -> Result<(), Reason>
+    ensures value { refusal_number result ≡ (table_opened own).refusal }
     ensures words_after { table_of words.new ≡ (table_opened own).table }
 {
     table_register::open(words, own)
@@ -45,20 +47,21 @@ pub fn register(
     first: usize,
     size: usize,
     memory: usize,
-) -> u8
-    ensures value { result ≡ (card_registered words.old source first size memory).refusal }
+) -> Result<(), Reason>
+    ensures value { refusal_number result
+        ≡ (card_registered words.old source first size memory).refusal }
     ensures words_after { table_of words.new
         ≡ (card_registered words.old source first size memory).table }
-    ensures left_if_refused { LeftIfRefused result words.old words.new }
+    ensures left_if_refused { LeftIfRefused (refusal_number result) words.old words.new }
 {
     table_register::register(words, source, first as u64, size as u64, memory as u64)
 }
 
 // Removes a card; 3 where its source is not registered.
-pub fn remove(words: &mut [u64; 1121], source: u16) -> u8
-    ensures value { result ≡ (card_removed words.old source).refusal }
+pub fn remove(words: &mut [u64; 1121], source: u16) -> Result<(), Reason>
+    ensures value { refusal_number result ≡ (card_removed words.old source).refusal }
     ensures words_after { table_of words.new ≡ (card_removed words.old source).table }
-    ensures left_if_refused { LeftIfRefused result words.old words.new }
+    ensures left_if_refused { LeftIfRefused (refusal_number result) words.old words.new }
 {
     table_register::remove(words, source)
 }
@@ -89,11 +92,11 @@ pub fn acknowledge(
 }
 
 // Copies a card's pair out as a host's; 3 where its source is not registered, and then the host stays as it is.
-pub fn take(words: &[u64; 1121], source: u16, pair: &mut [u64; 67]) -> u8
-    ensures value { result ≡ (card_taken words.now source).refusal }
+pub fn take(words: &[u64; 1121], source: u16, pair: &mut [u64; 67]) -> Result<(), Reason>
+    ensures value { refusal_number result ≡ (card_taken words.now source).refusal }
     ensures pair_after { pair_of pair.new
         ≡ taken_into (table_of words.now) source (pair_of pair.old) }
-    ensures left_if_refused { LeftIfRefused result pair.old pair.new }
+    ensures left_if_refused { LeftIfRefused (refusal_number result) pair.old pair.new }
 {
     adopt::take(words, source, pair)
 }
@@ -106,12 +109,12 @@ pub fn adopt(
     first: usize,
     size: usize,
     memory: usize,
-) -> u8
-    ensures value { result
+) -> Result<(), Reason>
+    ensures value { refusal_number result
         ≡ (card_adopted words.old pair.now first size memory).refusal }
     ensures words_after { table_of words.new
         ≡ (card_adopted words.old pair.now first size memory).table }
-    ensures left_if_refused { LeftIfRefused result words.old words.new }
+    ensures left_if_refused { LeftIfRefused (refusal_number result) words.old words.new }
 {
     adopt::adopt(words, pair, first as u64, size as u64, memory as u64)
 }

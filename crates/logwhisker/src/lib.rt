@@ -9,7 +9,8 @@
 pub mod billing;
 pub mod cards;
 
-ghost use Rattle.std.specs.Prelude.{◌≡◌};
+ghost use Rattle.std.specs.Prelude.{◌≡◌, IfOk};
+ghost use Rattle.refusal.specs.Reason.{refusal_number};
 ghost use Rattle.host_words.specs.Words.{pair_of};
 ghost use Rattle.card_words.specs.Words.{card_of};
 ghost use Rattle.card.specs.Card.{open_transaction, seal_frame};
@@ -17,7 +18,7 @@ ghost use Rattle.host.specs.Host.{stepped_of, LeavesWords, answer_of};
 ghost use Rattle.host_words.specs.Describing.{description};
 ghost use Rattle.delivery.specs.System.{specified_host};
 ghost use Rattle.card_send.specs.Parts.{shown_part};
-ghost use Rattle.card_send.specs.Choices.{chosen_part};
+ghost use Rattle.card_send.specs.Choices.{chosen_part, choice_of};
 ghost use Rattle.logwhisker.specs.Face.{
   host_opened,
   received,
@@ -35,11 +36,10 @@ ghost use Rattle.logwhisker.specs.Face.{
   LeftIfRefused,
 };
 
-pub use bitmap::word64::trailing_ones;
+pub use bitmap::Bitmap;
 use card_build::number;
-pub use card_build::number::{OpenedTransaction, SealedFrame};
-pub use card_send::choose::Choice;
-pub use card_send::show::{Part, Showing};
+pub use card_send::choose::Chosen;
+pub use card_send::show::Part;
 use card_send::{choose, show};
 pub use host::{Acknowledgement, Answer, Opened, Pair, Stepped};
 pub use host_answer::{kind_of, put_acknowledgement, put_answer};
@@ -49,14 +49,13 @@ pub use host_plain::{
 };
 use host_receive::by_value;
 use host_store::{restore, store};
-pub use host_stored::Stored;
 use host_words::{describe, opening, pair};
-pub use refusal::{class_number, class_of};
+pub use refusal::{Class, Reason, class_of, refusal_number};
 pub use replay_feed::{close as close_replay, feed as feed_replay, open as open_replay};
 pub use replay_text::Reply;
 pub use replay_text::line::Totals;
 pub use replay_text::place::{Closed, Fed, is_full as is_replay_full};
-pub use seq::{FrameNo, TransNo};
+pub use seq::{FrameNo, Serial, TransNo};
 pub use wire_read::layout::{Layout, layout_of};
 
 // ---- the host, in 67 words
@@ -65,8 +64,8 @@ pub use wire_read::layout::{Layout, layout_of};
 // are left open; opening and restoring always take effect. Receiving leaves every word as it was unless it accepts.
 
 // Opens a host; 13 where an ID is 0, and then the host is a fresh one with both IDs 0.
-pub fn open_host(words: &mut [u64; 67], own: u16, peer: u16) -> u8
-    ensures value { result ≡ (host_opened own peer).refusal.number }
+pub fn open_host(words: &mut [u64; 67], own: u16, peer: u16) -> Result<(), Reason>
+    ensures refused { refusal_number result ≡ (host_opened own peer).refusal.number }
     ensures words_after { pair_of words.new ≡ (host_opened own peer).pair }
 {
     opening::open_in_place(words, own, peer)
@@ -113,8 +112,9 @@ pub fn describe_host(words: &[u64; 67]) -> [u64; 167]
 
 // Stores a host's pair as text from the start of a lent buffer on, and gives the text's length; 13 where an ID is 0,
 // then 19 where the buffer is shorter than the text.
-pub fn store_host(words: &[u64; 67], buffer: &mut [u8]) -> Stored
-    ensures value { result ≡ host_stored words.now buffer.old }
+pub fn store_host(words: &[u64; 67], buffer: &mut [u8]) -> Result<usize, Reason>
+    ensures refused { refusal_number result ≡ (host_stored words.now buffer.old).refusal }
+    ensures stored { IfOk result (λ length. length ≡ (host_stored words.now buffer.old).length) }
     ensures buffer_after { buffer.new ≡ buffer_filled words.now buffer.old }
 {
     store::store(words, buffer)
@@ -122,8 +122,8 @@ pub fn store_host(words: &[u64; 67], buffer: &mut [u8]) -> Stored
 
 // Reads a host's pair back from its text; 15 where no pair has that text, and then the host is a fresh one with both
 // IDs 0.
-pub fn restore_host(words: &mut [u64; 67], text: &[u8]) -> u8
-    ensures value { result ≡ (host_restored text.now).refusal.number }
+pub fn restore_host(words: &mut [u64; 67], text: &[u8]) -> Result<(), Reason>
+    ensures refused { refusal_number result ≡ (host_restored text.now).refusal.number }
     ensures words_after { pair_of words.new ≡ (host_restored text.now).pair }
 {
     restore::restore(words, text)
@@ -161,8 +161,14 @@ pub fn acknowledge_by_value(pair: Pair, answer: Answer, number: FrameNo) -> Ackn
 
 // Opens a card with a frame limit; 13 where an ID is 0, then 26 where the limit or the slot buffer is not as it must
 // be. Where it is refused, the card is a fresh one with both IDs and the limit 0.
-pub fn open_card(words: &mut [u64; 85], own: u16, peer: u16, limit: usize, slots: &[u8]) -> u8
-    ensures value { result ≡ (card_opened own peer limit slots.now).refusal }
+pub fn open_card(
+    words: &mut [u64; 85],
+    own: u16,
+    peer: u16,
+    limit: usize,
+    slots: &[u8],
+) -> Result<(), Reason>
+    ensures refused { refusal_number result ≡ (card_opened own peer limit slots.now).refusal }
     ensures words_after { card_of words.new ≡ (card_opened own peer limit slots.now).card }
 {
     card_build::opening::open_card(words, own, peer, limit, slots)
@@ -175,11 +181,11 @@ pub fn open_transaction(
     count: u16,
     address: u32,
     value: u32,
-) -> OpenedTransaction
-    ensures refusal_value { result.refusal ≡ (transaction_opened words.old count address value).refusal }
-    ensures trans_value { result.trans ≡ (open_transaction (card_of words.old) count address value).trans }
+) -> Result<TransNo, Reason>
+    ensures refused { refusal_number result ≡ (transaction_opened words.old count address value).refusal }
+    ensures opened { IfOk result (λ trans. trans ≡ (open_transaction (card_of words.old) count address value).trans) }
     ensures words_after { card_of words.new ≡ (transaction_opened words.old count address value).card }
-    ensures left_if_refused { LeftIfRefused result.refusal words.old words.new }
+    ensures left_if_refused { LeftIfRefused (refusal_number result) words.old words.new }
 {
     number::open_transaction(words, count, address, value)
 }
@@ -191,33 +197,33 @@ pub fn add_message(
     trans: TransNo,
     address: u32,
     payload: &[u8],
-) -> u8
-    ensures value { result
+) -> Result<(), Reason>
+    ensures refused { refusal_number result
         ≡ (message_added words.old slots.old trans.0 address payload.now).refusal }
     ensures words_after { card_of words.new
         ≡ (message_added words.old slots.old trans.0 address payload.now).card }
     ensures slots_after { slots.new
         ≡ (message_added words.old slots.old trans.0 address payload.now).slots }
-    ensures left_if_refused { LeftIfRefused result words.old words.new }
+    ensures left_if_refused { LeftIfRefused (refusal_number result) words.old words.new }
 {
     card_build::add_message(words, slots, trans, address, payload)
 }
 
 // Seals the frame being built, and gives its number.
-pub fn seal_frame(words: &mut [u64; 85], slots: &[u8]) -> SealedFrame
-    ensures refusal_value { result.refusal ≡ (frame_sealed words.old slots.now).refusal }
-    ensures number_value { result.number ≡ (seal_frame (card_of words.old) slots.now).number }
+pub fn seal_frame(words: &mut [u64; 85], slots: &[u8]) -> Result<FrameNo, Reason>
+    ensures refused { refusal_number result ≡ (frame_sealed words.old slots.now).refusal }
+    ensures sealed { IfOk result (λ number. number ≡ (seal_frame (card_of words.old) slots.now).number) }
     ensures words_after { card_of words.new ≡ (frame_sealed words.old slots.now).card }
-    ensures left_if_refused { LeftIfRefused result.refusal words.old words.new }
+    ensures left_if_refused { LeftIfRefused (refusal_number result) words.old words.new }
 {
     number::seal_frame(words, slots)
 }
 
 // Reads the acknowledgements of an arriving frame.
-pub fn read_acknowledgements(words: &mut [u64; 85], frame: &[u8]) -> u8
-    ensures value { result ≡ (acks_read words.old frame.now).refusal }
+pub fn read_acknowledgements(words: &mut [u64; 85], frame: &[u8]) -> Result<(), Reason>
+    ensures refused { refusal_number result ≡ (acks_read words.old frame.now).refusal }
     ensures words_after { card_of words.new ≡ (acks_read words.old frame.now).card }
-    ensures left_if_refused { LeftIfRefused result words.old words.new }
+    ensures left_if_refused { LeftIfRefused (refusal_number result) words.old words.new }
 {
     card_acks::read_acknowledgements(words, frame)
 }
@@ -229,11 +235,11 @@ pub fn show_frame<'a>(words: &[u64; 85], slots: &'a [u8], number: FrameNo) -> &'
     show::show_frame(words, slots, number)
 }
 
-// The refusal of showing a frame, 0 for none.
-pub fn show_refusal(words: &[u64; 85], slots: &[u8], number: FrameNo) -> u8
-    ensures { result ≡ (frame_shown words.now slots.now number.0).refusal }
+// Whether the showing is refused, and why.
+pub fn check_show(words: &[u64; 85], slots: &[u8], number: FrameNo) -> Result<(), Reason>
+    ensures { refusal_number result ≡ (frame_shown words.now slots.now number.0).refusal }
 {
-    show::show_refusal(words, slots, number)
+    show::check_show(words, slots, number)
 }
 
 // Chooses what goes out next: the lent acknowledgement if it has 10 bytes, else the oldest held frame, each as a part
@@ -244,27 +250,29 @@ pub fn choose_next<'a>(words: &[u64; 85], slots: &'a [u8], ack: &'a [u8]) -> &'a
     choose::choose_next(words, slots, ack)
 }
 
-// The refusal of choosing, 0 for none.
-pub fn choose_refusal(words: &[u64; 85], slots: &[u8], ack: &[u8]) -> u8
-    ensures { result ≡ (next_chosen words.now slots.now ack.now).refusal }
+// Whether the choice is refused, and why.
+pub fn check_choose(words: &[u64; 85], slots: &[u8], ack: &[u8]) -> Result<(), Reason>
+    ensures { refusal_number result ≡ (next_chosen words.now slots.now ack.now).refusal }
 {
-    choose::choose_refusal(words, slots, ack)
+    choose::check_choose(words, slots, ack)
 }
 
 // ---- parts as numbers, for callers that no reference can be handed back to
 
-// Where the part that show_frame hands out lies in the slots, and its refusal.
-pub fn show_part(words: &[u64; 85], slots: &[u8], number: FrameNo) -> Showing
-    ensures value { result ≡ shown_part words.now slots.now number.0 }
-    ensures refusal_value { result.refusal ≡ (frame_shown words.now slots.now number.0).refusal }
+// Where the part that show_frame hands out lies in the slots.
+pub fn show_part(words: &[u64; 85], slots: &[u8], number: FrameNo) -> Result<Part, Reason>
+    ensures refused { refusal_number result ≡ (frame_shown words.now slots.now number.0).refusal }
+    ensures carried { refusal_number result ≡ (shown_part words.now slots.now number.0).refusal }
+    ensures shown { IfOk result (λ part. part ≡ (shown_part words.now slots.now number.0).part) }
 {
     show::show_part(words, slots, number)
 }
 
-// Where the part that choose_next hands out lies, in the slots or in the lent acknowledgement, and its refusal.
-pub fn choose_part(words: &[u64; 85], slots: &[u8], ack: &[u8]) -> Choice
-    ensures value { result ≡ chosen_part words.now slots.now ack.now }
-    ensures refusal_value { result.refusal ≡ (next_chosen words.now slots.now ack.now).refusal }
+// What choose_next hands out: the lent acknowledgement, or where the frame lies in the slots.
+pub fn choose_part(words: &[u64; 85], slots: &[u8], ack: &[u8]) -> Result<Chosen, Reason>
+    ensures refused { refusal_number result ≡ (next_chosen words.now slots.now ack.now).refusal }
+    ensures carried { refusal_number result ≡ (chosen_part words.now slots.now ack.now).refusal }
+    ensures chosen { IfOk result (λ x. choice_of x ≡ chosen_part words.now slots.now ack.now) }
 {
     choose::choose_part(words, slots, ack)
 }

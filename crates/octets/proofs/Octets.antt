@@ -11,7 +11,7 @@ use borrow.Author.Tests.{le-leb, lt-leb, leb-true}
 use borrow.Rule.Slice.PartMut.{put_mid}
 use mir.Syntax.{w8}
 use mir.Val.{Fits}
-use lib.ListN.{length, take, drop, get_or, set, length-append, drop_of_length-le}
+use lib.ListN.{length, take, drop, get_or, set, replicate, length-append, drop_of_length-le}
 use lib.Seq.{
   sets,
   sets-eq,
@@ -20,6 +20,7 @@ use lib.Seq.{
   take_at,
   drop_at,
   drop-append-add,
+  get_or-drop,
   drop-drop,
   drop-nil,
   take-nil,
@@ -74,6 +75,22 @@ pub field-4 : (s : List ℕ) (at : ℕ)
 field-4 s at =
     rw (field-suc s at 3, field-suc s (suc at) 2, field-suc s (suc (suc at)) 1, field-1 s (suc (suc (suc at))))
     (simp towards_numerals)
+
+-- bytes past the end are those of a list that is filled up with zeros
+zeros_at : (n i : ℕ) → get_or {A = ℕ} (replicate n 0) i 0 ≡ 0
+zeros_at zero i = refl
+zeros_at (suc n) zero = refl
+zeros_at (suc n) (suc i) = zeros_at n i
+
+get_or-zeros : (xs zs : List ℕ) (i : ℕ) → ((k : ℕ) → get_or zs k 0 ≡ 0) → get_or (xs ++ zs) i 0 ≡ get_or xs i 0
+get_or-zeros [] zs i h = h i
+get_or-zeros (x ∷ xs) zs zero h = refl
+get_or-zeros (x ∷ xs) zs (suc i) h = get_or-zeros xs zs i h
+
+pub get_or-filled : (xs : List ℕ) (n i : ℕ) → get_or (xs ++ drop (length xs) (replicate n 0)) i 0 ≡ get_or xs i 0
+get_or-filled xs n i =
+    get_or-zeros xs (drop (length xs) (replicate n 0)) i
+    (λ k. get_or-drop (length xs) (replicate n 0) k 0 ∙ zeros_at n (length xs + k))
 
 -- a field behind some bytes
 pub field-behind : (xs ys : List ℕ) (at n : ℕ) → field (xs ++ ys) (length xs + at) n ≡ field ys at n

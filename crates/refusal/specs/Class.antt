@@ -4,7 +4,7 @@ use Rattle.refusal.specs.declared.Class.{Class}
 use Rattle.refusal.specs.declared.Class.TheVariants.{Wire, Message, Caller, Card, Other}
 
 -- Whether n is one of the numbers from a to b.
-unfoldable pub between : ℕ → ℕ → ℕ → Bool
+abbrev pub between : ℕ → ℕ → ℕ → Bool
 between a b n = leb a n && leb n b
 
 -- The numbers of each class: of the wire 1 to 6, of a message 7 to 12, of the caller 13 and 14, of the card 20 to 27.

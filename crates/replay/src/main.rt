@@ -5,42 +5,120 @@
 // the same, so it is the last line that tells a whole replay.
 #![tactic(auto)]
 
+use refusal::Reason;
 use replay_output::Room;
-use replay_text::place;
+use replay_text::line::Totals;
+use replay_text::place::{Closed, Fed};
+use replay_text::{Reply, place};
 use std::io::Read;
 
 // Bytes of a piece of the input, and of the output that waits.
 const PIECE: usize = 65536;
 
+// A replay with what it is lent: the place that it has reached, the host, the line being read and the memory.
+#[derive(Drop)]
+struct Replay {
+    place: [u64; 9],
+    words: [u64; 67],
+    frame: [u8; 9000],
+    memory: [u8; 4096],
+}
+
+impl Replay {
+    fn open() -> Replay {
+        let mut replay = Replay {
+            place: [0; 9],
+            words: [0; 67],
+            frame: [0; 9000],
+            memory: [0; 4096],
+        };
+        replay_feed::open(&mut replay.place, &mut replay.words, &mut replay.memory);
+        replay
+    }
+
+    fn feed(&mut self, fragment: &[u8]) -> Result<Fed, Reason> {
+        replay_feed::feed(
+            &mut self.place,
+            &mut self.words,
+            &mut self.frame,
+            &mut self.memory,
+            fragment,
+        )
+    }
+
+    fn close(&mut self) -> Result<Closed, Reason> {
+        replay_feed::close(
+            &mut self.place,
+            &mut self.words,
+            &self.frame,
+            &mut self.memory,
+        )
+    }
+
+    fn is_full(&self) -> bool {
+        place::is_full(&self.place)
+    }
+}
+
+// From here on the two programs are the same but for Replay. A function for both would be a public one, which promises
+// its whole result: what is read and written here is the operating system's to say, and has no words for that.
+
+// The output buffer, in which answers wait to be written, and how far it is used.
+#[derive(Drop)]
+struct Output {
+    bytes: [u8; PIECE],
+    room: Room,
+}
+
+impl Output {
+    fn new() -> Output {
+        Output {
+            bytes: [0; PIECE],
+            room: Room {
+                used: 0,
+                failed: false,
+            },
+        }
+    }
+
+    fn make_room<E: Print + Eprint>(&mut self, rt: &E) {
+        self.room = replay_output::make_room(rt, &self.bytes, self.room.used, self.room.failed);
+    }
+
+    fn put_reply<E: Print + Eprint>(&mut self, rt: &E, reply: Reply) {
+        self.make_room(rt);
+        self.room = replay_output::put_reply(&mut self.bytes, self.room, reply);
+    }
+
+    // Writes what waits, and the totals behind it; after a failure there are none.
+    fn finish<E: Print + Eprint>(&mut self, rt: &E, totals: Totals) {
+        self.make_room(rt);
+        if self.room.failed {
+            return;
+        }
+        let used = replay_output::put_totals(&mut self.bytes, self.room.used, totals);
+        replay_output::write_out(rt, &self.bytes, used);
+    }
+
+    fn stop<E: Print + Eprint>(&mut self, rt: &E) {
+        self.room = replay_output::stop(rt, self.room, &self.bytes);
+    }
+}
+
 // Feeds a piece until it is taken whole, and puts the answer of each line that ends in it into the output buffer. No
 // call on an open replay takes nothing of what is left; the test is there since a loop that is proved has to end.
-fn take_piece<E: Print + Eprint>(
-    rt: &E,
-    at_start: Room,
-    piece: &[u8],
-    place: &mut [u64; 9],
-    words: &mut [u64; 67],
-    frame: &mut [u8; 9000],
-    memory: &mut [u8; 4096],
-    out: &mut [u8],
-) -> Room {
-    let mut room = at_start;
-    let mut at = 0;
-    while at < piece.len() {
-        let fed = replay_feed::feed(place, words, frame, memory, &piece[at..]);
-        if fed.taken == 0 {
-            return room;
+fn take_piece<E: Print + Eprint>(rt: &E, piece: &[u8], replay: &mut Replay, output: &mut Output) {
+    let mut rest = piece;
+    while !rest.is_empty() {
+        let Ok(fed) = replay.feed(rest) else {
+            return;
+        };
+        if fed.taken == 0 || rest.len() < fed.taken {
+            return;
         }
-        if piece.len() - at < fed.taken {
-            return room;
-        }
-        at += fed.taken;
-        let reply = fed.reply;
-        let made = replay_output::make_room(rt, out, room.used, room.failed);
-        let next = replay_output::put_reply(out, made, reply);
-        room = next;
+        rest = &rest[fed.taken..];
+        output.put_reply(rt, Ok(fed.answer));
     }
-    room
 }
 
 // Takes in the input piece by piece, until it ends or enough lines are answered. A loop that is proved has to end, and
@@ -48,95 +126,37 @@ fn take_piece<E: Print + Eprint>(
 fn read_all<E: Print + Eprint, R: Read>(
     rt: &E,
     input: &mut R,
-    piece: &mut [u8],
-    place: &mut [u64; 9],
-    words: &mut [u64; 67],
-    frame: &mut [u8; 9000],
-    memory: &mut [u8; 4096],
-    out: &mut [u8],
-) -> Room {
-    let mut room = Room {
-        used: 0,
-        failed: false,
-    };
+    replay: &mut Replay,
+    output: &mut Output,
+) {
+    let mut piece = [0u8; PIECE];
     for _ in 0..u64::MAX {
-        let got = replay_output::read_piece(rt, input, piece);
-        if got.failed {
-            return replay_output::stop(rt, room, out);
+        match replay_output::read_piece(rt, input, &mut piece) {
+            None => {
+                output.stop(rt);
+                return;
+            }
+            Some(0) => return,
+            Some(count) => take_piece(rt, &piece[..count], replay, output),
         }
-        if got.count == 0 {
-            return room;
-        }
-        let next = take_piece(
-            rt,
-            room,
-            &piece[..got.count],
-            place,
-            words,
-            frame,
-            memory,
-            out,
-        );
-        room = next;
-        if room.failed {
-            return room;
-        }
-        if place::is_full(place) {
-            return room;
+        if output.room.failed || replay.is_full() {
+            return;
         }
     }
-    room
 }
 
 // The last line, and then the totals.
-fn finish<E: Print + Eprint>(
-    rt: &E,
-    at_end: Room,
-    place: &mut [u64; 9],
-    words: &mut [u64; 67],
-    frame: &[u8; 9000],
-    memory: &mut [u8; 4096],
-    out: &mut [u8],
-) {
-    let closed = replay_feed::close(place, words, frame, memory);
-    let totals = closed.totals;
-    let reply = closed.reply;
-    let made = replay_output::make_room(rt, out, at_end.used, at_end.failed);
-    let last = replay_output::put_reply(out, made, reply);
-    let room = replay_output::make_room(rt, out, last.used, last.failed);
-    if room.failed {
-        return;
+fn finish<E: Print + Eprint>(rt: &E, replay: &mut Replay, output: &mut Output) {
+    if let Ok(closed) = replay.close() {
+        output.put_reply(rt, Ok(closed.answer));
+        output.finish(rt, closed.totals);
     }
-    let used = replay_output::put_totals(out, room.used, totals);
-    replay_output::write_out(rt, out, used);
 }
 
 fn main(rt: HostRuntime) {
-    let mut place = [0u64; 9];
-    let mut words = [0u64; 67];
-    let mut frame = [0u8; 9000];
-    let mut memory = [0u8; 4096];
-    let mut piece = [0u8; PIECE];
-    let mut out = [0u8; PIECE];
+    let mut replay = Replay::open();
+    let mut output = Output::new();
     let mut input = rt.reader();
-    replay_feed::open(&mut place, &mut words, &mut memory);
-    let end = read_all(
-        &rt,
-        &mut input,
-        &mut piece,
-        &mut place,
-        &mut words,
-        &mut frame,
-        &mut memory,
-        &mut out,
-    );
-    finish(
-        &rt,
-        end,
-        &mut place,
-        &mut words,
-        &frame,
-        &mut memory,
-        &mut out,
-    );
+    read_all(&rt, &mut input, &mut replay, &mut output);
+    finish(&rt, &mut replay, &mut output);
 }

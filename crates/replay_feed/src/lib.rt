@@ -14,8 +14,9 @@ ghost use Rattle.replay_feed.specs.State.{replaying_of, OpensReplay};
 use hexadecimal::line::Line;
 use host::{Answer, Refusal};
 use host_words::opening;
+use refusal::Reason;
 use replay_text::place::{Closed, Fed};
-use replay_text::{Reply, line, place};
+use replay_text::{line, place};
 
 // Opens a replay: its host has ID 1 and the peer 2, and the memory is all zero.
 pub fn open(place: &mut [u64; 9], words: &mut [u64; 67], memory: &mut [u8; 4096])
@@ -24,7 +25,7 @@ pub fn open(place: &mut [u64; 9], words: &mut [u64; 67], memory: &mut [u8; 4096]
 {
     *place = [0u64; 9];
     *memory = [0u8; 4096];
-    opening::open_in_place(words, place::OWN, place::PEER);
+    let _ = opening::open_in_place(words, place::OWN, place::PEER);
 }
 
 // Answers a line that has ended, its bytes at the start of frame; the host is in words.
@@ -36,11 +37,13 @@ fn answer_line(words: &mut [u64; 67], line: Line, frame: &[u8], memory: &mut [u8
     ensures memory_after { memory.new
         ≡ (answered_line (pair_of words.old) line frame.now memory.old).memory }
 {
-    let number = line::line_refusal(line);
-    if number != 0 {
-        return Answer::Refused(Refusal { number, place: 0 });
+    match line::check_line(line) {
+        Ok(_) => host_receive::receive_in_place(words, octets::front(frame, line.len), memory),
+        Err(reason) => Answer::Refused(Refusal {
+            number: reason.number(),
+            place: 0,
+        }),
     }
-    host_receive::receive_in_place(words, octets::front(frame, line.len), memory)
 }
 
 // Answers the line being read, which has ended, and counts the answer.
@@ -62,14 +65,14 @@ fn end_line(
 
 // Feeds a fragment. Where it has a newline, the line up to there is answered, and what follows is for the next call;
 // where it has none, or LINES_MOST lines are answered, it is used up and no line is answered. Once closed, the replay
-// uses up nothing and refuses with 17.
+// uses up nothing and refuses with 17. The four lent parts come one by one, since C lends them so.
 pub fn feed(
     place: &mut [u64; 9],
     words: &mut [u64; 67],
     frame: &mut [u8; 9000],
     memory: &mut [u8; 4096],
     fragment: &[u8],
-) -> Fed
+) -> Result<Fed, Reason>
     ensures value { result
         ≡ fed_of (feed_of
         (replaying_of place.old words.old frame.old memory.old)
@@ -78,21 +81,18 @@ pub fn feed(
         ≡ (feed_of
         (replaying_of place.old words.old frame.old memory.old)
         fragment.now).state }
-    ensures left_if_closed { LeftIfClosed result.reply
+    ensures left_if_closed { LeftIfClosed result
         (place.old ∷ words.old ∷ frame.old ∷ memory.old ∷ [])
         (place.new ∷ words.new ∷ frame.new ∷ memory.new ∷ []) }
 {
-    let got = place::take_in(place, frame, fragment);
+    let got = place::take_in(place, frame, fragment)?;
     let taken = got.taken;
     if got.ended {
-        let answer = end_line(place, words, frame, memory);
-        return Fed {
-            reply: Reply::Answered(answer),
-            taken,
-        };
+        let answer = Some(end_line(place, words, frame, memory));
+        return Ok(Fed { answer, taken });
     }
-    let reply = got.reply;
-    Fed { reply, taken }
+    let answer = None;
+    Ok(Fed { answer, taken })
 }
 
 // Answers a last line, if it has a character and LINES_MOST are not answered yet, and the totals. Once closed, it is
@@ -102,26 +102,23 @@ pub fn close(
     words: &mut [u64; 67],
     frame: &[u8; 9000],
     memory: &mut [u8; 4096],
-) -> Closed
+) -> Result<Closed, Reason>
     ensures value { result
         ≡ closed_of (close_of
         (replaying_of place.old words.old frame.now memory.old)) }
     ensures memory_after { replaying_of place.new words.new frame.now memory.new
         ≡ (close_of
         (replaying_of place.old words.old frame.now memory.old)).state }
-    ensures left_if_closed { LeftIfClosed result.reply
+    ensures left_if_closed { LeftIfClosed result
         (place.old ∷ words.old ∷ memory.old ∷ [])
         (place.new ∷ words.new ∷ memory.new ∷ []) }
 {
-    let held: &[u8] = frame;
     if place::has_last(place) {
-        let answer = end_line(place, words, held, memory);
-        let end = place::close(place);
-        let totals = end.totals;
-        return Closed {
-            reply: Reply::Answered(answer),
-            totals,
-        };
+        let answer = Some(end_line(place, words, frame, memory));
+        let totals = place::close(place)?;
+        return Ok(Closed { answer, totals });
     }
-    place::close(place)
+    let totals = place::close(place)?;
+    let answer = None;
+    Ok(Closed { answer, totals })
 }

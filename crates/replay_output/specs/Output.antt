@@ -1,21 +1,19 @@
 -- What a read brought, and the buffer in which the answers of a replay wait to be written.
-use Rattle.std.specs.Prelude.{◌≡◌, ℕ, ◌+◌, ◌≤◌, ◌<◌, min, Bool, true, false, List, ℤ, pos, negsuc, length}
+use Rattle.std.specs.Prelude.{◌≡◌, ℕ, ◌+◌, ◌≤◌, ◌<◌, min, Bool, true, false, List, ℤ, pos, negsuc, length, Option, Some, None, Result, Ok, Err}
 use Rattle.replay_text.specs.AnswerLine.{line_end, with_line}
 use Rattle.replay_text.specs.Report.{letter_of, numbers_of}
-use Rattle.replay_text.specs.declared.Reply.{Reply}
-use Rattle.replay_text.specs.declared.Reply.TheVariants.{Answered, Nothing, Refused}
-use Rattle.replay_output.specs.declared.Got.{Got}
+use Rattle.host.specs.declared.Answer.{Answer}
 use Rattle.replay_output.specs.declared.Room.{Room}
 
 -- What the answer to a read into a piece of this length means: a negative one that reading failed, and any other one
 -- how many bytes came, 0 at the input's end.
-unfoldable pub got_of : ℤ → ℕ → Got
-got_of (pos k) len = record { count = min k len; failed = false }
-got_of (negsuc k) len = record { count = 0; failed = true }
+unfoldable pub got_of : ℤ → ℕ → Option ℕ
+got_of (pos k) len = Some (min k len)
+got_of (negsuc k) len = None
 
 -- No more is to come.
-abbrev pub at_end : Got
-at_end = record { count = 0; failed = false }
+abbrev pub at_end : Option ℕ
+at_end = Some 0
 
 -- Nothing is kept, and nothing more is written.
 abbrev pub stopped : Room
@@ -37,16 +35,16 @@ Makes out used failed made =
     × (failed ≡ false → length out < used + 170 → made.used ≡ 0)
     × (failed ≡ false → used ≡ 0 → made ≡ record { used = 0; failed = false })
 
--- The answer's line behind what is used.
-abbrev pub room_after : List ℕ → Room → Reply → Room
-room_after out room (Answered a) = record {
+-- The answer's line behind what is used. A refused call has no line.
+abbrev pub room_after : {E : Type 0} → List ℕ → Room → Result (Option Answer) E → Room
+room_after out room (Ok (Some a)) = record {
   used = line_end out room.used (letter_of a) (numbers_of a);
   failed = room.failed;
 }
-room_after out room Nothing = room
-room_after out room (Refused n) = room
+room_after out room (Ok None) = room
+room_after out room (Err reason) = room
 
-abbrev pub out_after : List ℕ → Room → Reply → List ℕ
-out_after out room (Answered a) = with_line out room.used (letter_of a) (numbers_of a)
-out_after out room Nothing = out
-out_after out room (Refused n) = out
+abbrev pub out_after : {E : Type 0} → List ℕ → Room → Result (Option Answer) E → List ℕ
+out_after out room (Ok (Some a)) = with_line out room.used (letter_of a) (numbers_of a)
+out_after out room (Ok None) = out
+out_after out room (Err reason) = out

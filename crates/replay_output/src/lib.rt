@@ -3,35 +3,31 @@
 // that are there can be written is the operating system's to say, and no promise says it.
 #![tactic(auto)]
 
-ghost use Rattle.std.specs.Prelude.{◌≡◌, ◌<◌, ◌≤◌, true, [], ◌∷◌, length, take};
+ghost use Rattle.std.specs.Prelude.{◌≡◌, ◌<◌, ◌≤◌, [], ◌∷◌, length, take, IfSome};
+ghost use Rattle.std.specs.Option.{unwrap_or};
 ghost use Rattle.std.specs.Io.KnownBytes.{Consumes, IsAtEnd};
 ghost use Rattle.replay_text.specs.AnswerLine.{line_end, with_line};
 ghost use Rattle.replay_output.specs.Output.{got_of, at_end, stopped, room_after, out_after, Writes, Makes};
 
+use host::Answer;
 use replay_text::line::Totals;
-use replay_text::{Reply, answer, line};
+use replay_text::{answer, line};
 use std::fmt::Write;
 use std::io::{Error, Read};
 use std::{fmt, str};
 
-// How much of the output buffer is used, and whether reading or writing failed, or an answer was lost.
-#[derive(Clone, Copy)]
+// How much of the output buffer is used, and whether reading or writing failed, or an answer was lost. Both are asked
+// for of any values: what waits stays known after a failure.
+#[derive(Clone, Copy, Debug, PartialEq, Eq, Hash)]
 pub struct Room {
     pub used: usize,
-    pub failed: bool,
-}
-
-// How many bytes were read, 0 at the input's end, and whether reading failed.
-#[derive(Clone, Copy)]
-pub struct Got {
-    pub count: usize,
     pub failed: bool,
 }
 
 // Bytes of the longest text of an error that is kept.
 const WORDS_MOST: usize = 256;
 
-// The text of an error.
+// The text of an error. There is no heap for a String, so that an array with the length of its text stands for one.
 #[derive(Drop)]
 struct Words {
     bytes: [u8; WORDS_MOST],
@@ -52,12 +48,12 @@ impl fmt::Write for Words {
 
 // The text as it is kept. The library puts the error's number behind the words, which says nothing more.
 fn words_of(bytes: &[u8]) -> &str {
-    match str::from_utf8(bytes) {
-        Ok(text) => match text.split_once(" (os error ") {
-            Some((words, _)) => words,
-            None => text,
-        },
-        Err(_) => "",
+    let Ok(text) = str::from_utf8(bytes) else {
+        return "";
+    };
+    match text.split_once(" (os error ") {
+        Some((words, _)) => words,
+        None => text,
     }
 }
 
@@ -74,40 +70,36 @@ fn say<E: Eprint>(rt: &E, what: &str, error: &Error) {
     }
 }
 
-// What the operating system's answer to a read into this piece means.
-pub fn got_of(said: isize, piece: &[u8]) -> Got
+// How many bytes the operating system's answer to a read into this piece says were read, 0 at the input's end; none
+// where it says that reading failed.
+pub fn got_of(said: isize, piece: &[u8]) -> Option<usize>
     ensures { result ≡ got_of said (length piece.now) }
 {
     if said < 0 {
-        return Got {
-            count: 0,
-            failed: true,
-        };
+        return None;
     }
-    Got {
-        count: io::count(said, piece),
-        failed: false,
-    }
+    Some(io::count(said, piece))
 }
 
-// Reads into this piece, once. A failure is said on standard error, and nothing is read then.
-pub fn read_piece<E: Eprint, R: Read>(rt: &E, input: &mut R, piece: &mut [u8]) -> Got
-    ensures within { result.count ≤ length piece.new }
-    ensures failure { result.failed ≡ true → result.count ≡ 0 }
-    ensures brought { Consumes (R.remaining input.old) (R.remaining input.new) (take result.count piece.new) }
+// Reads into this piece, once, and answers how many bytes were read, 0 at the input's end. A failure is said on
+// standard error, and nothing is read then.
+pub fn read_piece<E: Eprint, R: Read>(rt: &E, input: &mut R, piece: &mut [u8]) -> Option<usize>
+    ensures within { IfSome result (λ count. count ≤ length piece.new) }
+    ensures brought { Consumes (R.remaining input.old) (R.remaining input.new) (take (unwrap_or result 0) piece.new) }
     ensures end { result ≡ at_end → 0 < length piece.new → IsAtEnd (R.remaining input.new) }
 {
     match input.read(piece) {
-        Ok(count) => got_of(count as isize, piece),
+        Ok(count) => Some(count),
         Err(error) => {
             say(rt, "read", &error);
-            got_of(-1, piece)
+            None
         }
     }
 }
 
 // Writes the used part of the output buffer, and answers whether all of it is written. Where there is something to
-// write, that is the operating system's to say. A failure is said on standard error.
+// write, that is the operating system's to say. A failure is said on standard error, so that no reason goes with the
+// answer.
 pub fn write_out<E: Print + Eprint>(rt: &E, out: &[u8], used: usize) -> bool
     ensures { Writes out.now used result }
 {
@@ -149,21 +141,18 @@ pub fn make_room<E: Print + Eprint>(rt: &E, out: &[u8], used: usize, failed: boo
     }
 }
 
-// Puts the answer of a line, if there is one, into the output buffer.
-pub fn put_reply(out: &mut [u8], room: Room, reply: Reply) -> Room
+// Puts the answer of a line, if there is one, into the output buffer. A refused call, whatever its reason, puts
+// nothing.
+pub fn put_reply<E: Copy>(out: &mut [u8], room: Room, reply: Result<Option<Answer>, E>) -> Room
     ensures value { result ≡ room_after out.old room reply }
     ensures out_after { out.new ≡ out_after out.old room reply }
 {
     match reply {
-        Reply::Answered(answer) => {
+        Ok(Some(answer)) => {
             let used = line::put_answer(out, room.used, answer);
-            Room {
-                used,
-                failed: room.failed,
-            }
+            Room { used, ..room }
         }
-        Reply::Nothing => room,
-        Reply::Refused(_) => room,
+        Ok(None) | Err(_) => room,
     }
 }
 

@@ -6,52 +6,125 @@
 #![tactic(auto)]
 
 use host_plain::PlainPair;
+use refusal::Reason;
 use replay_output::Room;
-use replay_text::place;
+use replay_text::line::Totals;
+use replay_text::place::{Closed, Fed};
+use replay_text::{Reply, place};
 use std::io::Read;
 
 // Bytes of a piece of the input, and of the output that waits.
 const PIECE: usize = 65536;
 
-// What a piece, or the whole input, leaves: the pair, and how far the output buffer is used.
-#[derive(Clone, Copy)]
-struct Reached {
-    pub pair: PlainPair,
-    pub room: Room,
+// A replay with what it is lent: the place that it has reached, the host's pair, the line being read and the memory.
+#[derive(Drop)]
+struct Replay {
+    place: [u64; 9],
+    pair: PlainPair,
+    frame: [u8; 9000],
+    memory: [u8; 4096],
+}
+
+impl Replay {
+    fn open() -> Replay {
+        let mut place = [0; 9];
+        let mut memory = [0; 4096];
+        let pair = replay_plain_feed::open(&mut place, &mut memory);
+        Replay {
+            place,
+            pair,
+            frame: [0; 9000],
+            memory,
+        }
+    }
+
+    fn feed(&mut self, fragment: &[u8]) -> Result<Fed, Reason> {
+        let step = replay_plain_feed::feed(
+            &mut self.place,
+            self.pair,
+            &mut self.frame,
+            &mut self.memory,
+            fragment,
+        );
+        self.pair = step.pair;
+        step.fed
+    }
+
+    fn close(&mut self) -> Result<Closed, Reason> {
+        let step = replay_plain_feed::close(
+            &mut self.place,
+            self.pair,
+            &self.frame,
+            &mut self.memory,
+        );
+        self.pair = step.pair;
+        step.closed
+    }
+
+    fn is_full(&self) -> bool {
+        place::is_full(&self.place)
+    }
+}
+
+// From here on the two programs are the same but for Replay. A function for both would be a public one, which promises
+// its whole result: what is read and written here is the operating system's to say, and has no words for that.
+
+// The output buffer, in which answers wait to be written, and how far it is used.
+#[derive(Drop)]
+struct Output {
+    bytes: [u8; PIECE],
+    room: Room,
+}
+
+impl Output {
+    fn new() -> Output {
+        Output {
+            bytes: [0; PIECE],
+            room: Room {
+                used: 0,
+                failed: false,
+            },
+        }
+    }
+
+    fn make_room<E: Print + Eprint>(&mut self, rt: &E) {
+        self.room = replay_output::make_room(rt, &self.bytes, self.room.used, self.room.failed);
+    }
+
+    fn put_reply<E: Print + Eprint>(&mut self, rt: &E, reply: Reply) {
+        self.make_room(rt);
+        self.room = replay_output::put_reply(&mut self.bytes, self.room, reply);
+    }
+
+    // Writes what waits, and the totals behind it; after a failure there are none.
+    fn finish<E: Print + Eprint>(&mut self, rt: &E, totals: Totals) {
+        self.make_room(rt);
+        if self.room.failed {
+            return;
+        }
+        let used = replay_output::put_totals(&mut self.bytes, self.room.used, totals);
+        replay_output::write_out(rt, &self.bytes, used);
+    }
+
+    fn stop<E: Print + Eprint>(&mut self, rt: &E) {
+        self.room = replay_output::stop(rt, self.room, &self.bytes);
+    }
 }
 
 // Feeds a piece until it is taken whole, and puts the answer of each line that ends in it into the output buffer. No
 // call on an open replay takes nothing of what is left; the test is there since a loop that is proved has to end.
-fn take_piece<E: Print + Eprint>(
-    rt: &E,
-    at_start: Reached,
-    piece: &[u8],
-    place: &mut [u64; 9],
-    frame: &mut [u8; 9000],
-    memory: &mut [u8; 4096],
-    out: &mut [u8],
-) -> Reached {
-    let mut pair = at_start.pair;
-    let mut room = at_start.room;
-    let mut at = 0;
-    while at < piece.len() {
-        let step = replay_plain_feed::feed(place, pair, frame, memory, &piece[at..]);
-        let fed = step.fed;
-        let taken = fed.taken;
-        if taken == 0 {
-            return Reached { pair, room };
+fn take_piece<E: Print + Eprint>(rt: &E, piece: &[u8], replay: &mut Replay, output: &mut Output) {
+    let mut rest = piece;
+    while !rest.is_empty() {
+        let Ok(fed) = replay.feed(rest) else {
+            return;
+        };
+        if fed.taken == 0 || rest.len() < fed.taken {
+            return;
         }
-        if piece.len() - at < taken {
-            return Reached { pair, room };
-        }
-        at += taken;
-        pair = step.pair;
-        let reply = fed.reply;
-        let made = replay_output::make_room(rt, out, room.used, room.failed);
-        let next = replay_output::put_reply(out, made, reply);
-        room = next;
+        rest = &rest[fed.taken..];
+        output.put_reply(rt, Ok(fed.answer));
     }
-    Reached { pair, room }
 }
 
 // Takes in the input piece by piece, until it ends or enough lines are answered. A loop that is proved has to end, and
@@ -59,83 +132,37 @@ fn take_piece<E: Print + Eprint>(
 fn read_all<E: Print + Eprint, R: Read>(
     rt: &E,
     input: &mut R,
-    opened: PlainPair,
-    piece: &mut [u8],
-    place: &mut [u64; 9],
-    frame: &mut [u8; 9000],
-    memory: &mut [u8; 4096],
-    out: &mut [u8],
-) -> Reached {
-    let mut pair = opened;
-    let mut room = Room {
-        used: 0,
-        failed: false,
-    };
+    replay: &mut Replay,
+    output: &mut Output,
+) {
+    let mut piece = [0u8; PIECE];
     for _ in 0..u64::MAX {
-        let got = replay_output::read_piece(rt, input, piece);
-        if got.failed {
-            let room = replay_output::stop(rt, room, out);
-            return Reached { pair, room };
+        match replay_output::read_piece(rt, input, &mut piece) {
+            None => {
+                output.stop(rt);
+                return;
+            }
+            Some(0) => return,
+            Some(count) => take_piece(rt, &piece[..count], replay, output),
         }
-        if got.count == 0 {
-            return Reached { pair, room };
-        }
-        let before = Reached { pair, room };
-        let after = take_piece(rt, before, &piece[..got.count], place, frame, memory, out);
-        pair = after.pair;
-        room = after.room;
-        if room.failed {
-            return Reached { pair, room };
-        }
-        if place::is_full(place) {
-            return Reached { pair, room };
+        if output.room.failed || replay.is_full() {
+            return;
         }
     }
-    Reached { pair, room }
 }
 
 // The last line, and then the totals.
-fn finish<E: Print + Eprint>(
-    rt: &E,
-    at_end: Reached,
-    place: &mut [u64; 9],
-    frame: &[u8; 9000],
-    memory: &mut [u8; 4096],
-    out: &mut [u8],
-) {
-    let pair = at_end.pair;
-    let before = at_end.room;
-    let step = replay_plain_feed::close(place, pair, frame, memory);
-    let closed = step.closed;
-    let totals = closed.totals;
-    let reply = closed.reply;
-    let made = replay_output::make_room(rt, out, before.used, before.failed);
-    let last = replay_output::put_reply(out, made, reply);
-    let room = replay_output::make_room(rt, out, last.used, last.failed);
-    if room.failed {
-        return;
+fn finish<E: Print + Eprint>(rt: &E, replay: &mut Replay, output: &mut Output) {
+    if let Ok(closed) = replay.close() {
+        output.put_reply(rt, Ok(closed.answer));
+        output.finish(rt, closed.totals);
     }
-    let used = replay_output::put_totals(out, room.used, totals);
-    replay_output::write_out(rt, out, used);
 }
 
 fn main(rt: HostRuntime) {
-    let mut place = [0u64; 9];
-    let mut frame = [0u8; 9000];
-    let mut memory = [0u8; 4096];
-    let mut piece = [0u8; PIECE];
-    let mut out = [0u8; PIECE];
+    let mut replay = Replay::open();
+    let mut output = Output::new();
     let mut input = rt.reader();
-    let pair = replay_plain_feed::open(&mut place, &mut memory);
-    let end = read_all(
-        &rt,
-        &mut input,
-        pair,
-        &mut piece,
-        &mut place,
-        &mut frame,
-        &mut memory,
-        &mut out,
-    );
-    finish(&rt, end, &mut place, &frame, &mut memory, &mut out);
+    read_all(&rt, &mut input, &mut replay, &mut output);
+    finish(&rt, &mut replay, &mut output);
 }

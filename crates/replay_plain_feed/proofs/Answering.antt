@@ -5,6 +5,12 @@ use mathlib.Core.List.{List}
 use Prim.Native.Nat.{ℕ}
 use borrow.Author.Tests.{eq-eqb, ne_eqb}
 use lib.ListN.{take}
+use Rattle.std.proofs.Common.{Option, Result, Ok, Err}
+use Rattle.refusal.specs.declared.Reason.{Reason}
+use Rattle.refusal.specs.declared.Reason.TheVariants.{ReplayClosed}
+use Rattle.host.specs.declared.Answer.{Answer}
+use Rattle.replay_text.specs.declared.line.Totals.{Totals}
+use Rattle.replay_text.proofs.place.Steps.{closing}
 use Rattle.bitmap.specs.Marks.{marks_of}
 use Rattle.hexadecimal.specs.declared.line.Line.{Line}
 use Rattle.host.specs.Host.{Received, fresh, unchanged, refused}
@@ -52,3 +58,9 @@ module _ (q : PlainPair) (line : Line) (frame memory : List ℕ) (number : ℕ) 
 pub opened-fresh : pair_of_plain (plain.opened_of 1 2).pair ≡ fresh 1 2
 unfolding pair_of_plain word_of marks_of plain.opened_of plain.fresh fresh
 opened-fresh = refl
+
+-- a closing that is refused was so before its answer was joined to it
+pub closing-refused : (answer : Option Answer) (end : Result Totals Reason) → closing answer end ≡ Err ReplayClosed
+    → end ≡ Err ReplayClosed
+closing-refused answer (Ok totals) e = let none : ⊥ = cc in absurd none
+closing-refused answer (Err reason) e = let r : reason ≡ ReplayClosed = cc in rw r

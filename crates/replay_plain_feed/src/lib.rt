@@ -14,21 +14,22 @@ ghost use Rattle.replay_plain_feed.specs.State.{replaying_of, OpensReplay};
 use hexadecimal::line::Line;
 use host::{Answer, Refusal};
 use host_plain::{PlainPair, PlainStepped};
+use refusal::Reason;
 use replay_text::place::{Closed, Fed};
-use replay_text::{Reply, line, place};
+use replay_text::{line, place};
 
-// What feeding answers, and the pair then.
-#[derive(Clone, Copy)]
+// What feeding answers, and the pair then: a refused call hands back the pair too.
+#[derive(Clone, Copy, Debug, PartialEq, Eq, Hash)]
 pub struct PlainFed {
     pub pair: PlainPair,
-    pub fed: Fed,
+    pub fed: Result<Fed, Reason>,
 }
 
-// What closing answers, and the pair then.
-#[derive(Clone, Copy)]
+// What closing answers, and the pair then: a refused call hands back the pair too.
+#[derive(Clone, Copy, Debug, PartialEq, Eq, Hash)]
 pub struct PlainClosed {
     pub pair: PlainPair,
-    pub closed: Closed,
+    pub closed: Result<Closed, Reason>,
 }
 
 // Opens a replay, and hands back its pair: the host has ID 1 and the peer 2. The memory is all zero.
@@ -36,10 +37,9 @@ pub fn open(place: &mut [u64; 9], memory: &mut [u8; 4096]) -> PlainPair
     ensures memory_after { memory.new ≡ replicate 4096 0 }
     ensures opens_replay { OpensReplay place.new result memory.new }
 {
-    *place = [0u64; 9];
-    *memory = [0u8; 4096];
-    let opened = host_plain::open_pair(place::OWN, place::PEER);
-    opened.pair
+    *place = [0; 9];
+    *memory = [0; 4096];
+    host_plain::open_pair(place::OWN, place::PEER).pair
 }
 
 // Answers a line that has ended, its bytes at the start of frame.
@@ -51,12 +51,16 @@ fn answer_line(pair: PlainPair, line: Line, frame: &[u8], memory: &mut [u8]) -> 
     ensures memory_after { memory.new
         ≡ (answered_line (pair_of_plain pair) line frame.now memory.old).memory }
 {
-    let number = line::line_refusal(line);
-    if number != 0 {
-        let answer = Answer::Refused(Refusal { number, place: 0 });
-        return PlainStepped { pair, answer };
+    match line::check_line(line) {
+        Ok(_) => host_plain::receive(pair, octets::front(frame, line.len), memory),
+        Err(reason) => {
+            let answer = Answer::Refused(Refusal {
+                number: reason.number(),
+                place: 0,
+            });
+            PlainStepped { pair, answer }
+        }
     }
-    host_plain::receive(pair, octets::front(frame, line.len), memory)
 }
 
 // Answers the line being read, which has ended, and counts the answer.
@@ -72,8 +76,7 @@ fn end_line(
 {
     let line = place::line_in(place);
     let stepped = answer_line(pair, line, frame, memory);
-    let answer = stepped.answer;
-    place::count_answer(place, answer);
+    place::count_answer(place, stepped.answer);
     stepped
 }
 
@@ -95,24 +98,33 @@ pub fn feed(
         ≡ (feed_of
         (replaying_of place.old pair frame.old memory.old)
         fragment.now).state }
-    ensures left_if_closed { LeftIfClosed result.fed.reply
+    ensures left_if_closed { LeftIfClosed result.fed
         (place.old ∷ frame.old ∷ memory.old ∷ [])
         (place.new ∷ frame.new ∷ memory.new ∷ []) }
-    ensures left_if_closed_2 { LeftIfClosed result.fed.reply pair result.pair }
+    ensures left_if_closed_2 { LeftIfClosed result.fed pair result.pair }
 {
-    let got = place::take_in(place, frame, fragment);
-    let taken = got.taken;
-    if got.ended {
-        let stepped = end_line(place, pair, frame, memory);
-        let answer = stepped.answer;
-        let reply = Reply::Answered(answer);
-        let fed = Fed { reply, taken };
-        let after = stepped.pair;
-        return PlainFed { pair: after, fed };
+    match place::take_in(place, frame, fragment) {
+        Err(reason) => {
+            let fed = Err(reason);
+            PlainFed { pair, fed }
+        }
+        Ok(got) if got.ended => {
+            let stepped = end_line(place, pair, frame, memory);
+            let fed = Ok(Fed {
+                answer: Some(stepped.answer),
+                taken: got.taken,
+            });
+            let after = stepped.pair;
+            PlainFed { pair: after, fed }
+        }
+        Ok(got) => {
+            let fed = Ok(Fed {
+                answer: None,
+                taken: got.taken,
+            });
+            PlainFed { pair, fed }
+        }
     }
-    let reply = got.reply;
-    let fed = Fed { reply, taken };
-    PlainFed { pair, fed }
 }
 
 // Answers a last line, if it has a character and LINES_MOST are not answered yet, and the totals. Once closed, it is
@@ -129,22 +141,20 @@ pub fn close(
     ensures memory_after { replaying_of place.new result.pair frame.now memory.new
         ≡ (close_of
         (replaying_of place.old pair frame.now memory.old)).state }
-    ensures left_if_closed { LeftIfClosed result.closed.reply
+    ensures left_if_closed { LeftIfClosed result.closed
         (place.old ∷ memory.old ∷ [])
         (place.new ∷ memory.new ∷ []) }
-    ensures left_if_closed_2 { LeftIfClosed result.closed.reply pair result.pair }
+    ensures left_if_closed_2 { LeftIfClosed result.closed pair result.pair }
 {
-    let held: &[u8] = frame;
     if place::has_last(place) {
-        let stepped = end_line(place, pair, held, memory);
-        let answer = stepped.answer;
-        let end = place::close(place);
-        let totals = end.totals;
-        let reply = Reply::Answered(answer);
-        let closed = Closed { reply, totals };
+        let stepped = end_line(place, pair, frame, memory);
+        let answer = Some(stepped.answer);
+        let closed = place::close(place).map(|totals| Closed { answer, totals });
         let last = stepped.pair;
         return PlainClosed { pair: last, closed };
     }
-    let closed = place::close(place);
+    let end = place::close(place);
+    let answer = None;
+    let closed = end.map(|totals| Closed { answer, totals });
     PlainClosed { pair, closed }
 }

@@ -1,13 +1,13 @@
 -- Fragments, cut anywhere, are answered as the whole text is.
 -- Assumes nothing.
 use Rattle.std.proofs.Common.{◌≡◌, ℕ, zero, suc, ◌+◌, ◌<◌, ◌≤◌, Bool, true, false, cond, eqb, leb, List, [], ◌∷◌, ◌++◌, length, drop, sym, refl, ap, ◌∙◌, append_assoc, arith, length-drop, drop_of_length-le, le-leb}
+use Rattle.std.specs.Prelude.{Some, None, Ok, Err}
 use native.Mathlib.Decide.{dec_le}
 use borrow.Author.Tests.{lt-leb}
 use lib.Seq.{drop-length}
 use Rattle.hexadecimal.specs.Line.{up_to_newline, has_newline}
 use Rattle.host.specs.declared.Answer.{Answer}
-use Rattle.replay_text.specs.declared.Reply.{Reply}
-use Rattle.replay_text.specs.declared.Reply.TheVariants.{Answered, Nothing, Refused}
+use Rattle.replay_text.specs.Reply.{Reply}
 use Rattle.replay_text.specs.Text.{lines_most}
 use Rattle.replay_text.specs.Feeding.{
   held_after,
@@ -37,7 +37,8 @@ unfoldable pub go_on : Replaying → List ℕ → Run Replaying
 go_on s [] = closed s
 go_on s (c ∷ cs) =
     cond (leb lines_most s.lines) (go_on s cs)
-    (cond (eqb c 10) (before (Answered (line_answer s)) (go_on (line_ended s) cs)) (go_on (with_characters (c ∷ []) s) cs))
+    (cond (eqb c 10) (before (Ok (Some (line_answer s))) (go_on (line_ended s) cs))
+    (go_on (with_characters (c ∷ []) s) cs))
 
 -- ---- one call takes the front of what is there
 
@@ -54,7 +55,7 @@ Fits s f rest =
 
 -- the three answers of an open replay
 module _ (s : Replaying) (f : List ℕ) (o : s.closed ≡ false) where
-  pub feed-over : lines_most ≤ s.lines → feed s f ≡ record { state = s; reply = Nothing; taken = length f }
+  pub feed-over : lines_most ≤ s.lines → feed s f ≡ record { state = s; reply = Ok None; taken = length f }
   unfolding feed
   feed-over h = rw (o, le-leb lines_most s.lines h)
 
@@ -63,14 +64,14 @@ module _ (s : Replaying) (f : List ℕ) (o : s.closed ≡ false) where
         → feed s f
         ≡ record {
           state = line_ended (with_characters (up_to_newline f) s);
-          reply = Answered (line_answer (with_characters (up_to_newline f) s));
+          reply = Ok (Some (line_answer (with_characters (up_to_newline f) s)));
           taken = length (up_to_newline f) + 1;
         }
     unfolding feed
     feed-line n = rw (o, lt-leb lines_most s.lines l, n)
 
     pub feed-part : has_newline f ≡ false
-        → feed s f ≡ record { state = with_characters f s; reply = Nothing; taken = length f }
+        → feed s f ≡ record { state = with_characters f s; reply = Ok None; taken = length f }
     unfolding feed
     feed-part n = rw (o, lt-leb lines_most s.lines l, n)
 
@@ -132,9 +133,9 @@ then first rest = record { answers = first ++ rest.answers; state = rest.state }
 
 before-then : (r : Reply) (first : List Answer) (rest : Run Replaying)
     → before r (then first rest) ≡ then (answers_of r first) rest
-before-then (Answered a) first rest = refl
-before-then Nothing first rest = refl
-before-then (Refused n) first rest = refl
+before-then (Ok (Some a)) first rest = refl
+before-then (Ok None) first rest = refl
+before-then (Err reason) first rest = refl
 
 -- what feeding has answered, and then the text that follows
 pub record Goes (s : Replaying) (cs rest : List ℕ) (r : Run Replaying) : Type 0 where

@@ -1,6 +1,7 @@
 -- A text taken character by character, and then closed, is answered as its lines are.
 -- Assumes nothing.
 use Rattle.std.proofs.Common.{◌≡◌, ℕ, suc, ◌+◌, ◌-◌, ◌<◌, ◌≤◌, Bool, true, false, cond, eqb, List, [], ◌∷◌, ◌++◌, length, take, sym, refl, ap, ◌∙◌, subst, append_assoc, append-nil, arith, ne_eqb, eqb-true, le-leb}
+use Rattle.std.specs.Prelude.{Some, None, Ok, Err}
 use native.Mathlib.Decide.{dec_le}
 use borrow.Author.Tests.{lt-leb}
 use lib.Seq.{take-nil}
@@ -9,7 +10,6 @@ use Rattle.host.specs.declared.Answer.{Answer}
 use Rattle.host.specs.Host.{Received}
 use Rattle.replay_text.specs.declared.line.Totals.{Totals}
 use Rattle.replay_text.specs.Report.{totalled}
-use Rattle.replay_text.specs.declared.Reply.TheVariants.{Answered, Nothing}
 use Rattle.replay_text.specs.Text.{lines_most, with_first, lines_of, answer_to, answers_to}
 use Rattle.replay_text.specs.Feeding.{
   Held,
@@ -99,13 +99,13 @@ left s a text = take (lines_most - s.lines) (lines_of (a ++ text))
 closed_none : (s : Replaying) → s.closed ≡ false → has_last s ≡ false → Answers s [] (closed s)
 unfolding closed close answers_to totalling
 closed_none s o h =
-    let e : close s ≡ record { state = now_closed s; reply = Nothing; totals = s.totals } = rw (h, o) in
+    let e : close s ≡ record { state = now_closed s; reply = Ok None; totals = s.totals } = rw (h, o) in
     rw e (record { answers-are = refl; pair_is = refl; memory-is = refl; totals-are = refl; is-closed = refl })
 
 -- a line answered, and those behind it
 line-then : (s : Replaying) (a : List ℕ) (lines : List (List ℕ)) (r : Run Replaying) → Reading s a
     → Answers (line_ended s) lines r
-    → Answers s (a ∷ lines) (before (Answered (line_answer s)) r)
+    → Answers s (a ∷ lines) (before (Ok (Some (line_answer s))) r)
 unfolding answers_to totalling
 line-then s a lines r w k =
     let e : answer_held s.pair s.memory s.held ≡ answer_to s.pair s.memory (decode a) =
@@ -136,7 +136,7 @@ closed-line : (s : Replaying) (a : List ℕ) → Reading s a → has_last s ≡ 
 unfolding closed close answers_to totalling
 closed-line s a w h =
     let e : close s
-    ≡ record { state = now_closed (line_ended s); reply = Answered (line_answer s); totals = (line_ended s).totals } =
+    ≡ record { state = now_closed (line_ended s); reply = Ok (Some (line_answer s)); totals = (line_ended s).totals } =
     rw (h, w.is_open) in
     rw e
     (line-then s a [] (record { answers = []; state = now_closed (line_ended s) }) w

@@ -1,7 +1,7 @@
 -- The claim: fragments, cut anywhere, and then the closing give what the whole text gives.
-use Rattle.std.specs.Prelude.{◌≡◌, ℕ, ◌≤◌, true, List, [], ◌∷◌, ◌++◌, length}
+use Rattle.std.specs.Prelude.{◌≡◌, ℕ, ◌≤◌, true, List, [], ◌∷◌, ◌++◌, length, Err}
+use Rattle.refusal.specs.declared.Reason.TheVariants.{ReplayClosed}
 use Rattle.host.specs.declared.Answer.{Answer}
-use Rattle.replay_text.specs.declared.Reply.TheVariants.{Refused}
 use Rattle.replay_text.specs.Text.{replayed, totals_of, answers_text, totals_text, output}
 use Rattle.replay_text.specs.Feeding.{
   Held,
@@ -39,8 +39,8 @@ pub record Replays (fragments : List (List ℕ)) (text : List ℕ) : Type 0 wher
 -- Any call after the closing is refused with 17 and changes nothing.
 pub record Refuses17 (s : Replaying) : Type 0 where
   pub feeding-refused : (fragment : List ℕ)
-      → ((feed s fragment).reply ≡ Refused 17) × ((feed s fragment).taken ≡ 0) × ((feed s fragment).state ≡ s)
-  pub closing-refused : ((close s).reply ≡ Refused 17) × ((close s).state ≡ s)
+      → ((feed s fragment).reply ≡ Err ReplayClosed) × ((feed s fragment).taken ≡ 0) × ((feed s fragment).state ≡ s)
+  pub closing-refused : ((close s).reply ≡ Err ReplayClosed) × ((close s).state ≡ s)
 
 -- No more than 9,000 bytes are held.
 abbrev pub HeldMost : Held → Type 0

@@ -1,5 +1,7 @@
 -- The replay from fragments: what it holds between two of them, feeding one, and now_closed.
-use Rattle.std.specs.Prelude.{◌≡◌, ℕ, zero, suc, ◌+◌, ◌*◌, Bool, true, false, cond, not, List, [], ◌∷◌, ◌++◌, length, drop, nat_le, nat_lt}
+use Rattle.std.specs.Prelude.{◌≡◌, ℕ, zero, suc, ◌+◌, ◌*◌, Bool, true, false, cond, not, List, [], ◌∷◌, ◌++◌, length, drop, nat_le, nat_lt, Some, None, Result, Ok, Err}
+use Rattle.refusal.specs.declared.Reason.{Reason}
+use Rattle.refusal.specs.declared.Reason.TheVariants.{ReplayClosed}
 use Rattle.std.proofs.Math.Option.{Option, none, some}
 use Rattle.hexadecimal.specs.Line.{digit, up_to_newline, has_newline}
 use Rattle.host.specs.declared.Pair.{Pair}
@@ -7,8 +9,7 @@ use Rattle.host.specs.declared.Answer.{Answer}
 use Rattle.host.specs.Host.{Received, fresh, unchanged, refused, receive_of}
 use Rattle.replay_text.specs.declared.line.Totals.{Totals}
 use Rattle.replay_text.specs.Report.{totalled}
-use Rattle.replay_text.specs.declared.Reply.{Reply}
-use Rattle.replay_text.specs.declared.Reply.TheVariants.{Answered, Nothing, Refused}
+use Rattle.replay_text.specs.Reply.{Reply}
 use Rattle.replay_text.specs.Text.{lines_most, memory_at_start, no_totals}
 
 -- ---- what is held of the line being read
@@ -119,15 +120,15 @@ pub record Step (S : Type 0) : Type 0 where
 
 unfoldable pub feed : Replaying → List ℕ → Step Replaying
 feed s fragment =
-    cond s.closed (record { state = s; reply = Refused 17; taken = 0 })
-    (cond (nat_le lines_most s.lines) (record { state = s; reply = Nothing; taken = length fragment })
+    cond s.closed (record { state = s; reply = Err ReplayClosed; taken = 0 })
+    (cond (nat_le lines_most s.lines) (record { state = s; reply = Ok None; taken = length fragment })
     (cond (has_newline fragment)
     (record {
       state = line_ended (with_characters (up_to_newline fragment) s);
-      reply = Answered (line_answer (with_characters (up_to_newline fragment) s));
+      reply = Ok (Some (line_answer (with_characters (up_to_newline fragment) s)));
       taken = length (up_to_newline fragment) + 1;
     })
-    (record { state = with_characters fragment s; reply = Nothing; taken = length fragment })))
+    (record { state = with_characters fragment s; reply = Ok None; taken = length fragment })))
 
 -- Closing answers a last line, if there is one, and the totals. A second now_closed gets refusal 17.
 pub record ClosedStep : Type 0 where
@@ -140,22 +141,22 @@ has_last s = cond (nat_le lines_most s.lines) false (not (is_empty s.held))
 
 unfoldable pub close : Replaying → ClosedStep
 close s =
-    cond s.closed (record { state = s; reply = Refused 17; totals = no_totals })
+    cond s.closed (record { state = s; reply = Err ReplayClosed; totals = no_totals })
     (cond (has_last s)
-    (record { state = now_closed (line_ended s); reply = Answered (line_answer s); totals = (line_ended s).totals })
-    (record { state = now_closed s; reply = Nothing; totals = s.totals }))
+    (record { state = now_closed (line_ended s); reply = Ok (Some (line_answer s)); totals = (line_ended s).totals })
+    (record { state = now_closed s; reply = Ok None; totals = s.totals }))
 
 -- A call that is refused with 17 leaves what it was lent as it was, word for word and byte for byte.
-abbrev pub LeftIfClosed : {A : Type 0} → Reply → A → A → Type 0
-LeftIfClosed reply lent left = reply ≡ Refused 17 → left ≡ lent
+abbrev pub LeftIfClosed : {T A : Type 0} → Result T Reason → A → A → Type 0
+LeftIfClosed result lent left = result ≡ Err ReplayClosed → left ≡ lent
 
 -- ---- a text, fed in fragments
 
 -- A reply's answer before those of the calls that follow.
 abbrev pub answers_of : Reply → List Answer → List Answer
-answers_of (Answered a) rest = a ∷ rest
-answers_of Nothing rest = rest
-answers_of (Refused n) rest = rest
+answers_of (Ok (Some a)) rest = a ∷ rest
+answers_of (Ok None) rest = rest
+answers_of (Err reason) rest = rest
 
 -- What a run of calls answers, and the state that they leave.
 pub record Run (S : Type 0) : Type 0 where

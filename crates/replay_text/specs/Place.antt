@@ -1,16 +1,19 @@
 -- The place of a replay from fragments as nine lent words; the state that it holds together with a pair, a frame buffer
 -- and a memory; and what a call does with the words before and after a host is asked. Any words are a place.
-use Rattle.std.specs.Prelude.{◌≡◌, ℕ, ◌+◌, ◌%◌, ◌^◌, Bool, false, cond, not, List, [], ◌∷◌, length, ◌==◌, nat_le, slice_index}
+use Rattle.std.specs.Prelude.{◌≡◌, ℕ, ◌+◌, ◌%◌, ◌^◌, Bool, false, cond, not, List, [], ◌∷◌, length, ◌==◌, nat_le, slice_index, Option, Result, Ok, Err}
+use Rattle.refusal.specs.declared.Reason.{Reason}
+use Rattle.refusal.specs.declared.Reason.TheVariants.{ReplayClosed}
 use Rattle.hexadecimal.specs.declared.line.Line.{Line}
 use Rattle.hexadecimal.specs.Taking.{start, taken_from, frame_after, empty_line}
 use Rattle.host.specs.declared.Answer.{Answer}
 use Rattle.host.specs.declared.Pair.{Pair}
 use Rattle.replay_text.specs.declared.line.Totals.{Totals}
 use Rattle.replay_text.specs.Report.{answered_line, totalled}
-use Rattle.replay_text.specs.declared.Reply.TheVariants.{Nothing, Refused}
-use Rattle.replay_text.specs.Text.{lines_most, no_totals}
+use Rattle.replay_text.specs.Text.{lines_most}
 use Rattle.replay_text.specs.Feeding.{Replaying, Step, ClosedStep}
 use Rattle.replay_text.specs.Describing.{held_of}
+use Rattle.replay_text.specs.Reply.{Reply}
+use Rattle.replay_text.specs.declared.place.Place.{Place}
 use Rattle.replay_text.specs.declared.place.Taking.{Taking}
 use Rattle.replay_text.specs.declared.place.Fed.{Fed}
 use Rattle.replay_text.specs.declared.place.Closed.{Closed}
@@ -45,6 +48,14 @@ place_words totals lines closed line =
     totals.messages ∷ totals.bytes ∷ totals.completed ∷ lines ∷ closed ∷ line.len ∷ line.half
     ∷ cond line.odd 1 0 ∷ cond line.bad 1 0 ∷ []
 
+abbrev pub place_of : List ℕ → Place
+place_of place = record {
+  totals = totals_in place;
+  lines = lines_in place;
+  closed = slice_index place 4;
+  line = line_of place;
+}
+
 -- ---- the state, with whatever host describes the pair; the line's bytes stand at the start of the frame buffer
 
 abbrev pub state_of : List ℕ → Pair → List ℕ → List ℕ → Replaying
@@ -64,27 +75,37 @@ Answers place pair frame memory answer pair_left memory-left =
     × ((pair_left ≡ (answered_line pair (line_of place) frame memory).pair)
     × (memory-left ≡ (answered_line pair (line_of place) frame memory).memory))
 
--- What the calls answer of a step.
-abbrev pub fed_of : Step Replaying → Fed
-fed_of step = record { reply = step.reply; taken = step.taken }
+-- What the calls answer of a step: a refused one has neither a count of bytes nor totals.
+abbrev pub fed_with : Reply → ℕ → Result Fed Reason
+fed_with (Ok answer) taken = Ok (record { answer = answer; taken = taken })
+fed_with (Err reason) taken = Err reason
 
-abbrev pub closed_of : ClosedStep → Closed
-closed_of step = record { reply = step.reply; totals = step.totals }
+abbrev pub fed_of : Step Replaying → Result Fed Reason
+fed_of step = fed_with step.reply step.taken
+
+abbrev pub closed_with : Reply → Totals → Result Closed Reason
+closed_with (Ok answer) totals = Ok (record { answer = answer; totals = totals })
+closed_with (Err reason) totals = Err reason
+
+abbrev pub closed_of : ClosedStep → Result Closed Reason
+closed_of step = closed_with step.reply step.totals
 
 -- ---- taking a fragment in: refused once closed, used up once full, and else taken up to its newline
+
+abbrev pub opened : ℕ → Result Unit Reason
+opened closed = cond (is_set closed) (Err ReplayClosed) (Ok tt)
 
 unfoldable pub noted : List ℕ → Line → List ℕ
 noted place line = place_words (totals_in place) (lines_in place) (slice_index place 4) line
 
-unfoldable pub taking_of : List ℕ → List ℕ → List ℕ → Taking
+unfoldable pub taking_of : List ℕ → List ℕ → List ℕ → Result Taking Reason
 taking_of place frame fragment =
-    cond (closed_in place) (record { reply = Refused 17; taken = 0; ended = false })
-    (cond (nat_le lines_most (lines_in place)) (record { reply = Nothing; taken = length fragment; ended = false })
-    (record {
-      reply = Nothing;
+    cond (closed_in place) (Err ReplayClosed)
+    (cond (nat_le lines_most (lines_in place)) (Ok (record { taken = length fragment; ended = false }))
+    (Ok (record {
       taken = (taken_from (line_of place) frame 0 fragment).at;
       ended = (taken_from (line_of place) frame 0 fragment).ended;
-    }))
+    })))
 
 unfoldable pub place_taken : List ℕ → List ℕ → List ℕ → List ℕ
 place_taken place frame fragment =
@@ -108,10 +129,8 @@ unfoldable pub last_in : List ℕ → Bool
 last_in place =
     cond (closed_in place) false (cond (nat_le lines_most (lines_in place)) false (not (empty_line (line_of place))))
 
-unfoldable pub closing_of : List ℕ → Closed
-closing_of place =
-    cond (closed_in place) (record { reply = Refused 17; totals = no_totals })
-    (record { reply = Nothing; totals = totals_in place })
+unfoldable pub closing_of : List ℕ → Result Totals Reason
+closing_of place = cond (closed_in place) (Err ReplayClosed) (Ok (totals_in place))
 
 unfoldable pub place_closed : List ℕ → List ℕ
 place_closed place = cond (closed_in place) place (place_words (totals_in place) (lines_in place) 1 (line_of place))

@@ -15,8 +15,8 @@ const NUMBERS_MOST: usize = 8;
 pub const LINE_MOST: usize = 170;
 
 // Puts a space and a number's digits into text from at on, and answers the index behind.
-fn put_number(text: &mut [u8], at: usize, x: u64) -> usize
-    requires { at + 21 ≤ length text.old }
+fn put_number(text: &mut [u8; LINE_MOST], at: usize, x: u64) -> usize
+    requires { at + 21 ≤ 170 }
     ensures value { (result ≡ at + length (32 ∷ decimal x)) × (result ≤ at + 21) }
     ensures text_after { text.new ≡ sets text.old at (32 ∷ decimal x) }
 {
@@ -28,17 +28,15 @@ fn put_number(text: &mut [u8], at: usize, x: u64) -> usize
 }
 
 // Puts the text of a line at the start of text, and answers its length.
-fn put_text(text: &mut [u8], letter: u8, numbers: &[u64]) -> usize
-    requires { (length text.old ≡ 170) × (length numbers.now ≤ 8) }
+fn put_text(text: &mut [u8; LINE_MOST], letter: u8, numbers: &[u64]) -> usize
+    requires { length numbers.now ≤ 8 }
     ensures upper_bound { (result ≤ 170) × (result ≡ length (line_text letter numbers.now)) }
     ensures text_after { take result text.new ≡ line_text letter numbers.now }
 {
     text[0] = letter;
     let mut n = 1;
-    let mut i = 0;
-    while i < numbers.len() {
-        n = put_number(text, n, numbers[i]);
-        i += 1;
+    for x in numbers {
+        n = put_number(text, n, *x);
     }
     text[n] = b'\n';
     n + 1

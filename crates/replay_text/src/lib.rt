@@ -7,11 +7,7 @@ pub mod line;
 pub mod place;
 
 use host::Answer;
+use refusal::Reason;
 
-// What a call says of a line: its answer, nothing where no line ended, or that the call is refused.
-#[derive(Clone, Copy)]
-pub enum Reply {
-    Answered(Answer),
-    Nothing,
-    Refused(u8),
-}
+// What a call says of a line: its answer, nothing where no line ended, or why the call is refused.
+pub type Reply = Result<Option<Answer>, Reason>;

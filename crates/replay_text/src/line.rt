@@ -1,33 +1,36 @@
 // What the replay says of one line, whichever host answers it: the refusal of a line that is no frame, an answer's
 // text, and the totals. Assumes nothing. It promises what specs/Report.antt says.
-ghost use Rattle.std.specs.Prelude.{◌≡◌, [], ◌∷◌};
+ghost use Rattle.std.specs.Prelude.{◌≡◌};
+ghost use Rattle.refusal.specs.Reason.{refusal_number};
 ghost use Rattle.replay_text.specs.AnswerLine.{line_end, with_line};
 ghost use Rattle.replay_text.specs.Report.{line_refusal, letter_of, numbers_of, totalled};
 
 use crate::answer;
 use hexadecimal::line::Line;
 use host::Answer;
+use refusal::Reason;
 
 // Sums over accepted frames.
-#[derive(Clone, Copy)]
+#[derive(Clone, Copy, Debug, PartialEq, Eq, Hash, Default)]
 pub struct Totals {
     pub messages: u64,
     pub bytes: u64,
     pub completed: u64,
 }
 
-// The refusal of a line that has ended: 14 where it spells no bytes, then 2 where it spells more than FRAME_MOST; 0 for
-// none, and then a host is to be asked.
-pub fn line_refusal(line: Line) -> u8
-    ensures { result ≡ line_refusal line }
+// Whether a line that has ended is one that a host is to be asked about: not where it spells no bytes, nor, of those
+// that spell some, where they are more than FRAME_MOST.
+#[tactic(auto, unfolding(crate::specs::Report::line_refusal))]
+pub fn check_line(line: Line) -> Result<(), Reason>
+    ensures { refusal_number result ≡ line_refusal line }
 {
     if line.is_refused() {
-        return refusal::BAD_LINE;
+        return Err(Reason::BadLine);
     }
     if wire::FRAME_MOST < line.len {
-        return refusal::FRAME_TOO_LONG;
+        return Err(Reason::FrameTooLong);
     }
-    0
+    Ok(())
 }
 
 // Writes an answer's line into out from at on, and answers the index behind it; where it does not fit, nothing is
@@ -39,25 +42,16 @@ pub fn put_answer(out: &mut [u8], at: usize, answer: Answer) -> usize
     match answer {
         Answer::Accepted(n, s, _) => {
             let numbers = [
-                n.0 as u64,
-                s.messages as u64,
-                s.bytes as u64,
-                s.completed as u64,
+                n.0.into(),
+                s.messages.into(),
+                s.bytes.into(),
+                s.completed.into(),
             ];
             answer::put_line(out, at, b'A', &numbers)
         }
-        Answer::Again(n, _) => {
-            let numbers = [n.0 as u64];
-            answer::put_line(out, at, b'G', &numbers)
-        }
-        Answer::NoMessages => {
-            let numbers = [0u64; 0];
-            answer::put_line(out, at, b'N', &numbers)
-        }
-        Answer::Refused(r) => {
-            let numbers = [r.number as u64];
-            answer::put_line(out, at, b'R', &numbers)
-        }
+        Answer::Again(n, _) => answer::put_line(out, at, b'G', &[n.0.into()]),
+        Answer::NoMessages => answer::put_line(out, at, b'N', &[]),
+        Answer::Refused(r) => answer::put_line(out, at, b'R', &[r.number.into()]),
     }
 }
 
@@ -68,13 +62,11 @@ impl Totals {
     {
         match answer {
             Answer::Accepted(_, s, _) => Totals {
-                messages: std::num::wrapping_add_u64(self.messages, s.messages as u64),
-                bytes: std::num::wrapping_add_u64(self.bytes, s.bytes as u64),
-                completed: std::num::wrapping_add_u64(self.completed, s.completed as u64),
+                messages: self.messages.wrapping_add(s.messages.into()),
+                bytes: self.bytes.wrapping_add(s.bytes.into()),
+                completed: self.completed.wrapping_add(s.completed.into()),
             },
-            Answer::Again(_, _) => self,
-            Answer::NoMessages => self,
-            Answer::Refused(_) => self,
+            Answer::Again(_, _) | Answer::NoMessages | Answer::Refused(_) => self,
         }
     }
 }

@@ -1,12 +1,13 @@
 // The place that a replay from fragments has reached, in nine words that a caller lends, and what a call does with it
 // before and after a host is asked: whichever host that is. Assumes nothing: any words are a place. It promises what
 // specs/Place.antt says; proofs/place/Steps.antt shows that it comes to the calls of replay_text/specs/Feeding.antt.
-ghost use Rattle.std.specs.Prelude.{◌≡◌, if◌then◌else◌, nat_le, slice_index};
+ghost use Rattle.std.specs.Prelude.{◌≡◌, nat_le, slice_index};
 ghost use Rattle.replay_text.specs.Place.{
+  is_set,
+  opened,
   line_of,
-  totals_in,
   place_words,
-  noted,
+  place_of,
   taking_of,
   place_taken,
   frame_taken,
@@ -16,12 +17,11 @@ ghost use Rattle.replay_text.specs.Place.{
   place_closed,
 };
 
-use crate::Reply;
 use crate::line::Totals;
 use hexadecimal::feed;
 use hexadecimal::line::Line;
 use host::Answer;
-use refusal::REPLAY_CLOSED;
+use refusal::Reason;
 
 // The host's own ID.
 pub const OWN: u16 = 1;
@@ -32,179 +32,188 @@ pub const PEER: u16 = 2;
 // Lines that are answered.
 pub const LINES_MOST: u64 = 1000000;
 
-// Where the count of answered lines stands in the words, and where whether the replay is closed.
-const LINES: usize = 3;
-
-const CLOSED: usize = 4;
-
-// What a fragment brought: what is said of it where no line ended, how many bytes were taken, and whether a line ended,
-// which a host has to answer.
-#[derive(Clone, Copy)]
+// What a fragment brought: how many bytes were taken, and whether a line ended, which a host has to answer.
+#[derive(Clone, Copy, Debug, PartialEq, Eq, Hash)]
 pub struct Taking {
-    pub reply: Reply,
     pub taken: usize,
     pub ended: bool,
 }
 
-// What feeding answers: what it says of a line, and how many bytes were taken.
-#[derive(Clone, Copy)]
+// What feeding answers: the answer of a line, if one ended, and how many bytes were taken.
+#[derive(Clone, Copy, Debug, PartialEq, Eq, Hash)]
 pub struct Fed {
-    pub reply: Reply,
+    pub answer: Option<Answer>,
     pub taken: usize,
 }
 
-// What closing answers: what it says of a last line, and the totals.
-#[derive(Clone, Copy)]
+// What closing answers: the answer of a last line, if there is one, and the totals.
+#[derive(Clone, Copy, Debug, PartialEq, Eq, Hash)]
 pub struct Closed {
-    pub reply: Reply,
+    pub answer: Option<Answer>,
     pub totals: Totals,
 }
 
-// A yes as 1 and a no as 0.
-fn bit(b: bool) -> u64
-    ensures { result ≡ (if b then 1 else 0) }
-{
-    if b {
-        return 1;
+// What the nine words say: the totals so far, the count of answered lines, a word that is not 0 once the replay is
+// closed, and the line being read.
+#[derive(Clone, Copy, Debug, PartialEq, Eq, Hash)]
+struct Place {
+    totals: Totals,
+    lines: u64,
+    closed: u64,
+    line: Line,
+}
+
+impl Place {
+    // The place that words say; any words do.
+    fn of(words: &[u64; 9]) -> Place
+        ensures { result ≡ place_of words.now }
+    {
+        let [
+            messages,
+            bytes,
+            completed,
+            lines,
+            closed,
+            len,
+            half,
+            odd,
+            bad,
+        ] = *words;
+        Place {
+            totals: Totals {
+                messages,
+                bytes,
+                completed,
+            },
+            lines,
+            closed,
+            line: Line {
+                len: len as usize,
+                half: (half % 16) as u8,
+                odd: odd != 0,
+                bad: bad != 0,
+            },
+        }
     }
-    0
+
+    // Its words.
+    fn words(self) -> [u64; 9]
+        ensures { result ≡ place_words self.totals self.lines self.closed self.line }
+    {
+        [
+            self.totals.messages,
+            self.totals.bytes,
+            self.totals.completed,
+            self.lines,
+            self.closed,
+            self.line.len as u64,
+            self.line.half.into(),
+            self.line.odd.into(),
+            self.line.bad.into(),
+        ]
+    }
+
+    // Whether the replay is closed.
+    fn is_closed(self) -> bool
+        ensures { result ≡ is_set self.closed }
+    {
+        self.closed != 0
+    }
+
+    // The refusal of every call once the replay is closed.
+    fn check_open(self) -> Result<(), Reason>
+        ensures { result ≡ opened self.closed }
+    {
+        if self.is_closed() {
+            return Err(Reason::ReplayClosed);
+        }
+        Ok(())
+    }
+
+    // Whether LINES_MOST lines are answered.
+    fn is_full(self) -> bool
+        ensures { result ≡ nat_le 1000000 self.lines }
+    {
+        LINES_MOST <= self.lines
+    }
 }
 
 // The line being read.
 pub fn line_in(place: &[u64; 9]) -> Line
     ensures { result ≡ line_of place.now }
 {
-    Line {
-        len: place[5] as usize,
-        half: (place[6] % 16) as u8,
-        odd: place[7] != 0,
-        bad: place[8] != 0,
-    }
-}
-
-// The totals so far.
-fn totals_in(place: &[u64; 9]) -> Totals
-    ensures { result ≡ totals_in place.now }
-{
-    Totals {
-        messages: place[0],
-        bytes: place[1],
-        completed: place[2],
-    }
-}
-
-// A place as words.
-fn place_of(totals: Totals, lines: u64, closed: u64, line: Line) -> [u64; 9]
-    ensures { result ≡ place_words totals lines closed line }
-{
-    [
-        totals.messages,
-        totals.bytes,
-        totals.completed,
-        lines,
-        closed,
-        line.len as u64,
-        line.half as u64,
-        bit(line.odd),
-        bit(line.bad),
-    ]
-}
-
-// Notes the line as far as it is read.
-fn note_line(place: &mut [u64; 9], line: Line)
-    ensures { place.new ≡ noted place.old line }
-{
-    let totals = totals_in(place);
-    let lines = place[LINES];
-    let closed = place[CLOSED];
-    *place = place_of(totals, lines, closed, line);
+    Place::of(place).line
 }
 
 // Takes in a fragment up to its first newline; the bytes that its digits spell go into frame. Where LINES_MOST lines
-// are answered it is used up and not looked at. Once closed, the replay uses up nothing and refuses with 17.
-pub fn take_in(place: &mut [u64; 9], frame: &mut [u8], fragment: &[u8]) -> Taking
+// are answered it is used up and not looked at. Once closed, the replay uses up nothing and refuses.
+#[tactic(auto, unfolding(crate::specs::Place::taking_of, crate::specs::Place::place_taken, crate::specs::Place::frame_taken, crate::specs::Place::noted))]
+pub fn take_in(place: &mut [u64; 9], frame: &mut [u8], fragment: &[u8]) -> Result<Taking, Reason>
     ensures value { result ≡ taking_of place.old frame.old fragment.now }
     ensures place_after { place.new
         ≡ place_taken place.old frame.old fragment.now }
     ensures frame_after { frame.new
         ≡ frame_taken place.old frame.old fragment.now }
 {
-    if place[CLOSED] != 0 {
-        return Taking {
-            reply: Reply::Refused(REPLAY_CLOSED),
-            taken: 0,
-            ended: false,
-        };
-    }
-    if LINES_MOST <= place[LINES] {
-        return Taking {
-            reply: Reply::Nothing,
+    let now = Place::of(place);
+    now.check_open()?;
+    if now.is_full() {
+        return Ok(Taking {
             taken: fragment.len(),
             ended: false,
-        };
+        });
     }
-    let got = feed::take_in(line_in(place), frame, fragment, 0);
-    let line = got.line;
-    note_line(place, line);
-    Taking {
-        reply: Reply::Nothing,
+    let got = feed::take_in(now.line, frame, fragment, 0);
+    *place = Place {
+        line: got.line,
+        ..now
+    }
+    .words();
+    Ok(Taking {
         taken: got.at,
         ended: got.ended,
-    }
+    })
 }
 
 // Counts the answer of the line that has ended. The next line has no character yet.
+#[tactic(auto, unfolding(crate::specs::Place::counted))]
 pub fn count_answer(place: &mut [u64; 9], answer: Answer)
     ensures { place.new ≡ counted place.old answer }
 {
-    let totals = totals_in(place).with(answer);
-    let lines = std::num::wrapping_add_u64(place[LINES], 1);
-    let closed = place[CLOSED];
-    *place = place_of(totals, lines, closed, Line::start());
+    let now = Place::of(place);
+    *place = Place {
+        totals: now.totals.with(answer),
+        lines: now.lines.wrapping_add(1),
+        closed: now.closed,
+        line: Line::start(),
+    }
+    .words();
 }
 
 // Whether LINES_MOST lines are answered, so that nothing more is looked at.
 pub fn is_full(place: &[u64; 9]) -> bool
     ensures { result ≡ nat_le 1000000 (slice_index place.now 3) }
 {
-    LINES_MOST <= place[LINES]
+    Place::of(place).is_full()
 }
 
 // Whether closing has a last line to answer: one with a character, where the replay is open and not full.
+#[tactic(auto, unfolding(crate::specs::Place::last_in))]
 pub fn has_last(place: &[u64; 9]) -> bool
     ensures { result ≡ last_in place.now }
 {
-    if place[CLOSED] != 0 {
-        return false;
-    }
-    if LINES_MOST <= place[LINES] {
-        return false;
-    }
-    !line_in(place).is_empty()
+    let now = Place::of(place);
+    !now.is_closed() && !now.is_full() && !now.line.is_empty()
 }
 
-// Closes a replay that has no last line, or whose last line is answered: the totals. Once closed, it is refused with
-// 17.
-pub fn close(place: &mut [u64; 9]) -> Closed
+// Closes a replay that has no last line, or whose last line is answered: the totals. Once closed, it is refused.
+#[tactic(auto, unfolding(crate::specs::Place::closing_of, crate::specs::Place::place_closed))]
+pub fn close(place: &mut [u64; 9]) -> Result<Totals, Reason>
     ensures value { result ≡ closing_of place.old }
     ensures place_after { place.new ≡ place_closed place.old }
 {
-    if place[CLOSED] != 0 {
-        return Closed {
-            reply: Reply::Refused(REPLAY_CLOSED),
-            totals: Totals {
-                messages: 0,
-                bytes: 0,
-                completed: 0,
-            },
-        };
-    }
-    let totals = totals_in(place);
-    let lines = place[LINES];
-    let line = line_in(place);
-    *place = place_of(totals, lines, 1, line);
-    Closed {
-        reply: Reply::Nothing,
-        totals,
-    }
+    let now = Place::of(place);
+    now.check_open()?;
+    *place = Place { closed: 1, ..now }.words();
+    Ok(now.totals)
 }

@@ -1,9 +1,9 @@
 -- Worked lists: the refusals of registering, removing and receiving, one by one. Assumes nothing.
 use Prim.Native.Nat.{ℕ}
 use mathlib.Core.Path.{◌≡◌, refl}
-use mathlib.Core.Bool.{true}
 use mathlib.Core.List.{List, [], ◌∷◌, ◌++◌, map}
 use lib.ListN.{length, replicate}
+use Rattle.std.specs.Prelude.{Some}
 use Rattle.seq.specs.Ring.{distance, advance}
 use Rattle.bitmap.specs.Marks.{mark, with_mark, leading, trailing_ones, marks_of}
 use Rattle.octets.specs.Octets.{little, value, field, inside, written}
@@ -165,7 +165,7 @@ placed = refl
 
 -- An acknowledgement goes from our ID to the frame's source: three numbers from 5 on.
 acknowledged : table_acknowledgement two.table (frame 2 4 0) (Again (record { 0 = 5 }) 3) 0
-    ≡ record { due = true; frame = 2 ∷ 0 ∷ 1 ∷ 0 ∷ 0 ∷ 0 ∷ 5 ∷ 0 ∷ 3 ∷ 0 ∷ [] }
+    ≡ Some (2 ∷ 0 ∷ 1 ∷ 0 ∷ 0 ∷ 0 ∷ 5 ∷ 0 ∷ 3 ∷ 0 ∷ [])
 unfolding computed acknowledgement_from ack_frame frame_head
 acknowledged = refl
 

@@ -1,12 +1,11 @@
 -- A table of up to 16 pairs at one host, each with a region of one memory: opening, registering, removing, receiving a
 -- frame, and the acknowledgement that an answer calls for.
-use Rattle.std.specs.Prelude.{ℕ, suc, ◌+◌, Bool, false, cond, not, ◌&&◌, ◌||◌, List, [], ◌∷◌, eqb, ltb, length, get_or, take, drop, set, replicate}
+use Rattle.std.specs.Prelude.{ℕ, suc, ◌+◌, Bool, false, cond, not, ◌&&◌, ◌||◌, List, [], ◌∷◌, eqb, ltb, length, get_or, take, drop, set, replicate, Option}
 use Rattle.std.proofs.lemmas.List.Edits.{sets}
 use Rattle.wire.specs.Format.{frame_most}
 use Rattle.wire.specs.Reading.{destination, source}
 use Rattle.host.specs.declared.Pair.{Pair}
 use Rattle.host.specs.declared.Answer.{Answer}
-use Rattle.host.specs.declared.Acknowledgement.{Acknowledgement}
 use Rattle.host.specs.Host.{fresh, receive_of, refused, acknowledgement_from}
 
 -- A registered card: its ID, its region of memory (first byte and length), and its pair. A free place has source 0.
@@ -137,5 +136,5 @@ table_receive t f memory =
 -- ---- acknowledging
 
 -- An acknowledgement goes from our ID to the frame's source, with the number that the caller gives.
-abbrev pub table_acknowledgement : Table → List ℕ → Answer → ℕ → Acknowledgement
+abbrev pub table_acknowledgement : Table → List ℕ → Answer → ℕ → Option (List ℕ)
 table_acknowledgement t f a num = acknowledgement_from t.own (source f) a num

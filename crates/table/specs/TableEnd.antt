@@ -1,9 +1,8 @@
 -- A table as its calls. They are a parameter of the statements about lists of calls, so that these can be made of the
 -- rules' table and of wrong ones.
-use Rattle.std.specs.Prelude.{ℕ, List}
+use Rattle.std.specs.Prelude.{ℕ, List, Option}
 use Rattle.host.specs.declared.Pair.{Pair}
 use Rattle.host.specs.declared.Answer.{Answer}
-use Rattle.host.specs.declared.Acknowledgement.{Acknowledgement}
 use Rattle.table.specs.Table.{
   Table,
   TableStep,
@@ -27,7 +26,7 @@ pub record TableEnd : Type 0 where
   pub taking : Table → ℕ → TakenOut
   pub adopting : Table → Pair → ℕ → ℕ → ℕ → TableStep
   pub receiving : Table → List ℕ → List ℕ → TableReceived
-  pub acknowledging : Table → List ℕ → Answer → ℕ → Acknowledgement
+  pub acknowledging : Table → List ℕ → Answer → ℕ → Option (List ℕ)
 
 -- The table that the rules describe.
 abbrev pub specified_table : TableEnd

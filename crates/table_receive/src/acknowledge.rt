@@ -10,14 +10,10 @@ use host::{Acknowledgement, Answer};
 use host_words::pair;
 use seq::FrameNo;
 
-// The source that a frame names. A byte that is not there counts as 0. Both branches read the same; where a header is
-// there, the compiler need not ask for each of its bytes, and reads it once for this and for receiving.
+// The source that a frame names. A byte that is not there counts as 0.
 pub fn source_of(f: &[u8]) -> u16
     ensures { result ≡ source_in f.now }
 {
-    if wire::FRAME_HEADER <= f.len() {
-        return wire_read::frame_header(f).source;
-    }
     wire_read::frame_header(f).source
 }
 

@@ -6,72 +6,61 @@
 
 pub mod acknowledge;
 
-ghost use Rattle.std.specs.Prelude.{◌≡◌, length};
-ghost use Rattle.table_words.specs.TableWords.{table_words};
-ghost use Rattle.table_receive.specs.TableReceiving.{Finds, TableReceives};
+ghost use Rattle.std.specs.Prelude.{◌≡◌, IfOk, length};
+ghost use Rattle.table_words.specs.TableWords.{table_of, table_words};
+ghost use Rattle.table_receive.specs.TableReceiving.{FoundAt, TableReceives};
+ghost use Rattle.table.specs.Table.{table_refusal};
+ghost use Rattle.refusal.specs.Reason.{refusal_number};
 
 use host::Answer;
 use host_receive::refuse;
+use refusal::Reason;
 
-// The refusal of a frame by the table, 0 for none; and then the place of its source and the source's region.
+// The place of a frame's source, and the source's region. Nothing compares or prints it, so that it derives no more.
 #[derive(Clone, Copy)]
-pub struct Reached {
-    pub refusal: u8,
-    pub place: usize,
-    pub first: usize,
-    pub size: usize,
+struct Reached {
+    place: usize,
+    first: usize,
+    size: usize,
 }
 
-// Refused by the table.
-fn stopped(refusal: u8) -> Reached
-    ensures { result.refusal ≡ refusal }
-{
-    Reached {
-        refusal,
-        place: 0,
-        first: 0,
-        size: 0,
-    }
-}
-
-// Refusals 1, 2, 3 and 31 in their order, of a frame that comes with a memory of some length.
-fn find(words: &[u64], f: &[u8], memory: usize) -> Reached
+// Refusals 1, 2, 3 and 31 in their order, of a frame that comes with a memory of some length; else what it reaches.
+fn find(words: &[u64], f: &[u8], memory: usize) -> Result<Reached, Reason>
     requires { length words.now ≡ table_words }
-    ensures { Finds words.now f.now memory result }
+    ensures refusal { refusal_number result ≡ table_refusal (table_of words.now) f.now memory }
+    ensures reached { IfOk result (λ r. FoundAt words.now f.now memory r.place r.first r.size) }
 {
     if f.len() < wire::FRAME_HEADER {
-        return stopped(refusal::FRAME_TOO_SHORT);
+        return Err(Reason::FrameTooShort);
     }
     if wire::FRAME_MOST < f.len() {
-        return stopped(refusal::FRAME_TOO_LONG);
+        return Err(Reason::FrameTooLong);
     }
     let head = wire_read::frame_header(f);
     if head.destination != table_words::own(words) {
-        return stopped(refusal::WRONG_ID);
+        return Err(Reason::WrongId);
     }
     if head.source == 0 {
-        return stopped(refusal::WRONG_ID);
+        return Err(Reason::WrongId);
     }
     let sources = &words[table_words::SOURCES..table_words::FIRSTS];
-    let place = table_words::index_of(sources, head.source);
-    if table_words::PLACES <= place {
-        return stopped(refusal::WRONG_ID);
-    }
+    let Some(place) = table_words::position(sources, head.source) else {
+        return Err(Reason::WrongId);
+    };
     let first = table_words::first_at(words, place);
     let size = table_words::size_at(words, place);
     let end = memory as u64;
     if end < first {
-        return stopped(refusal::REGION_OUTSIDE_MEMORY);
+        return Err(Reason::RegionOutsideMemory);
     }
     if end - first < size {
-        return stopped(refusal::REGION_OUTSIDE_MEMORY);
+        return Err(Reason::RegionOutsideMemory);
     }
-    Reached {
-        refusal: 0,
+    Ok(Reached {
         place,
         first: first as usize,
         size: size as usize,
-    }
+    })
 }
 
 // Receives a frame at a table in 1,121 words. They and the memory change only where the frame is accepted.
@@ -80,15 +69,15 @@ pub fn receive(words: &mut [u64], f: &[u8], memory: &mut [u8]) -> Answer
         memory.new result }
 {
     if words.len() != table_words::TABLE_WORDS {
-        return refuse::refusing(host_words::OTHER_LENGTH, 0);
+        return refuse::refusing(Reason::OtherLength.number(), 0);
     }
-    let reached = find(words, f, memory.len());
-    if reached.refusal != 0 {
-        return refuse::refusing(reached.refusal, 0);
+    match find(words, f, memory.len()) {
+        Err(reason) => refuse::refusing(reason.number(), 0),
+        Ok(Reached { place, first, size }) => {
+            let at = table_words::PAIRS + table_words::PAIR * place;
+            let stop = at + table_words::PAIR;
+            let end = first + size;
+            host_receive::receive_in_place(&mut words[at..stop], f, &mut memory[first..end])
+        }
     }
-    let at = table_words::PAIRS + table_words::PAIR * reached.place;
-    let stop = at + table_words::PAIR;
-    let first = reached.first;
-    let end = first + reached.size;
-    host_receive::receive_in_place(&mut words[at..stop], f, &mut memory[first..end])
 }

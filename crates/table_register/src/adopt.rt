@@ -6,76 +6,73 @@ ghost use Rattle.host_words.specs.Words.{word_count, pair_of};
 ghost use Rattle.table.specs.Table.{with_entry};
 ghost use Rattle.table_words.specs.TableWords.{table_words, table_of};
 ghost use Rattle.table_register.specs.TableAdopting.{TakesOut, Adopts};
+ghost use Rattle.refusal.specs.Reason.{refusal_number};
 
-// Copies words into as many.
-fn copy_words(to: &mut [u64], from: &[u64])
-    requires { length from.now ≡ length to.old }
-    ensures { to.new ≡ from.now }
-{
-    let mut i: usize = 0;
-    while i < from.len() {
-        to[i] = from[i];
-        i += 1;
-    }
-}
+use crate::Card;
+use refusal::Reason;
 
 // Makes a place hold a source with its region, and a pair.
-fn put_entry(words: &mut [u64], k: usize, source: u16, first: u64, size: u64, pair: &[u64])
+fn put_entry(words: &mut [u64], k: usize, card: Card, pair: &[u64])
     requires { (k < 16) × (length words.old ≡ table_words) × (length pair.now ≡ word_count) }
     ensures { table_of words.new ≡ with_entry (table_of words.old) k
-        (record { source = source; first = first; size = size; pair = pair_of pair.now }) }
+        (record { source = card.source; first = card.first; size = card.size; pair = pair_of pair.now }) }
 {
-    words[table_words::SOURCES + k] = source as u64;
-    words[table_words::FIRSTS + k] = first;
-    words[table_words::SIZES + k] = size;
+    words[table_words::SOURCES + k] = u64::from(card.source);
+    words[table_words::FIRSTS + k] = card.first;
+    words[table_words::SIZES + k] = card.size;
     let at = table_words::PAIRS + table_words::PAIR * k;
     let stop = at + table_words::PAIR;
-    copy_words(&mut words[at..stop], pair);
+    words[at..stop].copy_from_slice(pair);
 }
 
-// Copies a registered source's pair out: 0, or refusal 3 where it is not registered.
-pub fn take(words: &[u64], source: u16, pair: &mut [u64]) -> u8
-    ensures { TakesOut words.now source pair.old pair.new result }
+// Copies a registered source's pair out, which is refused where it is not registered.
+pub fn take(words: &[u64], source: u16, pair: &mut [u64]) -> Result<(), Reason>
+    ensures { TakesOut words.now source pair.old pair.new (refusal_number result) }
 {
     if words.len() != table_words::TABLE_WORDS {
-        return host_words::OTHER_LENGTH;
+        return Err(Reason::OtherLength);
     }
     if pair.len() != host_words::WORDS {
-        return host_words::OTHER_LENGTH;
+        return Err(Reason::OtherLength);
     }
     if source == 0 {
-        return refusal::WRONG_ID;
+        return Err(Reason::WrongId);
     }
-    let k = crate::place_of(words, source);
-    if table_words::PLACES <= k {
-        return refusal::WRONG_ID;
-    }
+    let Some(k) = crate::place_of(words, source) else {
+        return Err(Reason::WrongId);
+    };
     let at = table_words::PAIRS + table_words::PAIR * k;
     let stop = at + table_words::PAIR;
-    copy_words(pair, &words[at..stop]);
-    0
+    pair.copy_from_slice(&words[at..stop]);
+    Ok(())
 }
 
-// Registers a host's pair with size bytes of the memory from first on: 0, or the refusal, 13 also where its own ID is
-// not the table's.
-pub fn adopt(words: &mut [u64], pair: &[u64], first: u64, size: u64, memory: u64) -> u8
-    ensures { Adopts words.old pair.now first size memory words.new result }
+// Registers a host's pair with size bytes of the memory from first on. It is refused as registering is, with 13 also
+// where the host's own ID is not the table's.
+pub fn adopt(
+    words: &mut [u64],
+    pair: &[u64],
+    first: u64,
+    size: u64,
+    memory: u64,
+) -> Result<(), Reason>
+    ensures { Adopts words.old pair.now first size memory words.new (refusal_number result) }
 {
     if words.len() != table_words::TABLE_WORDS {
-        return host_words::OTHER_LENGTH;
+        return Err(Reason::OtherLength);
     }
     if pair.len() != host_words::WORDS {
-        return host_words::OTHER_LENGTH;
+        return Err(Reason::OtherLength);
     }
     if host_words::own(pair) != table_words::own(words) {
-        return refusal::ID_ZERO;
+        return Err(Reason::IdZero);
     }
-    let source = host_words::peer(pair);
-    let refusal = crate::register_refusal(words, source, first, size, memory);
-    if refusal != 0 {
-        return refusal;
-    }
-    let k = crate::place_of(words, 0);
-    put_entry(words, k, source, first, size, pair);
-    0
+    let card = Card {
+        source: host_words::peer(pair),
+        first,
+        size,
+    };
+    let k = crate::check_registering(words, card, memory)?;
+    put_entry(words, k, card, pair);
+    Ok(())
 }

@@ -1,18 +1,19 @@
 -- Laws of a table in words: what stands at a place, overlapping, and what stores leave of a table.
 -- Assumes nothing.
-use Prim.Native.Nat.{ℕ, zero, suc, ◌+◌, ◌≤◌, ◌<◌}
-use native.Mathlib.Decide.{ℕ_discrete}
+use Prim.Native.Nat.{ℕ, zero, suc, ◌+◌, ◌%◌, ◌≤◌, ◌<◌}
+use native.Mathlib.Decide.{ℕ_discrete, dec_lt}
 use native.Mathlib.Numerals.{add-one}
 use native.Mathlib.Omega.{arith}
 use mathlib.Core.Path.{◌≡◌, refl, sym, ◌∙◌, ap}
 use mathlib.Core.Logic.{◌≢◌}
 use mathlib.Core.Bool.{Bool, true, false, not}
 use mathlib.Core.List.{List, ◌++◌, append_assoc}
-use borrow.Author.Tests.{not-true, not-false}
+use borrow.Author.Tests.{not-true, not-false, lt-ltb, le-ltb}
 use borrow.Rule.Slice.PartMut.{put_mid}
 use lib.Dec.{ltb}
 use lib.ListN.{length, get_or, take, drop, set, length-set, get_or-eq_default}
 use lib.Seq.{sets, sets-eq, drop-drop, ext_get_or, get_or-set_same, get_or-set_other}
+use Rattle.std.specs.Prelude.{if◌then◌else◌}
 use Rattle.words.specs.Words.{listed}
 use Rattle.words.proofs.Listed.{length-listed, listed_at}
 use Rattle.table.specs.Table.{Entry, no_entry, overlaps, overlaps_any, with_entry}
@@ -40,6 +41,21 @@ size_is w k h x q = q ∙ ap (λ (e : Entry). e.size) (table_at w k h)
 -- past the sixteenth place there is none
 pub table-past : (w : List ℕ) (k : ℕ) → 16 ≤ k → place (table_of w) k ≡ no_entry
 table-past w k h = get_or-eq_default (table_of w).entries no_entry {n = k} (rw (table-long w) h)
+
+-- what is read of a place's words, by the test that the code makes
+module _ (w : List ℕ) (k : ℕ) where
+  abbrev pub word-at : ℕ → ℕ
+  word-at from = if ltb k 16 then get_or w (from + k) 0 else 0
+
+  pub place-words : ((place (table_of w) k).source ≡ word-at 1 % 65536) × ((place (table_of w) k).first ≡ word-at 17)
+      × ((place (table_of w) k).size ≡ word-at 33)
+  place-words = go (dec_lt k 16)
+    where
+      go : Dec (k < 16)
+          → ((place (table_of w) k).source ≡ word-at 1 % 65536) × ((place (table_of w) k).first ≡ word-at 17)
+          × ((place (table_of w) k).size ≡ word-at 33)
+      go (yes h) = rw (table_at w k h, lt-ltb k 16 h) (refl, refl, refl)
+      go (no h) = rw (table-past w k (omega arith), le-ltb k 16 (omega arith)) (refl, refl, refl)
 
 -- ---- overlapping
 

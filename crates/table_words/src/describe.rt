@@ -24,10 +24,8 @@ pub fn describe(w: &[u64]) -> [u64; 49]
 {
     let mut out = [0u64; 49];
     out[0] = crate::own(w) as u64;
-    let mut k: usize = 0;
-    while k < crate::PLACES {
+    for k in 0..crate::PLACES {
         put_three(&mut out, w, k);
-        k += 1;
     }
     out
 }

@@ -24,7 +24,7 @@ pub const LENGTH_AT: usize = 20;
 pub const TRAILING_AT: usize = 23;
 
 // The header of a frame, as it stands on the wire.
-#[derive(Clone, Copy)]
+#[derive(Clone, Copy, Debug, PartialEq, Eq, Hash)]
 pub struct FrameHeader {
     pub destination: u16,
     pub source: u16,
@@ -34,26 +34,23 @@ pub struct FrameHeader {
     pub flags: u8,
 }
 
-// The last offset of the form 10 + 8k that a word holds.
-const LAST_HEADER: usize = 18446744073709551610;
+// From one place where a message header may stand to the next.
+const HEADER_STEP: usize = 8;
 
 // Message headers stand at offsets of the form 10 + 8k: the first of these that is not before end. 0 where no word
-// holds it.
+// holds it: so says the definition, and no frame comes near such an end.
 pub fn next_header(end: usize) -> usize
     ensures { result ≡ header_after end }
 {
-    if LAST_HEADER < end {
-        return 0;
-    }
-    if end < FRAME_HEADER {
-        return FRAME_HEADER;
-    }
-    FRAME_HEADER + (end - FRAME_HEADER + 7) / 8 * 8
+    end.saturating_sub(FRAME_HEADER)
+        .next_multiple_of(HEADER_STEP)
+        .checked_add(FRAME_HEADER)
+        .unwrap_or(0)
 }
 
 // The header of a message: its transaction's number, where its completion goes and what that writes, how many data
 // messages it has, and the address of this one's data. The data's length is that of a slice beside it.
-#[derive(Clone, Copy)]
+#[derive(Clone, Copy, Debug, PartialEq, Eq, Hash)]
 pub struct MessageHeader {
     pub trans: TransNo,
     pub completion_address: u32,
@@ -63,11 +60,9 @@ pub struct MessageHeader {
 }
 
 // The messages that a transaction takes: one bare one for count 0.
+#[tactic(auto, using(std::proofs::lemmas::Bool::Decides::nat_tests), unfolding(crate::specs::Format::needed))]
 pub fn messages_needed(count: u16) -> u16
     ensures { result ≡ needed count }
 {
-    if count == 0 {
-        return 1;
-    }
-    count
+    count.max(1)
 }

@@ -15,17 +15,23 @@ use Rattle.wire.specs.declared.MessageHeader.{MessageHeader}
 use Rattle.wire.specs.Format.{next_header}
 use Rattle.wire.specs.Reading.{follows, data_end, message_at, prepend, messages_from}
 use Rattle.wire.proofs.Format.{next-after, next-near}
-use Rattle.wire_read.specs.declared.Found.TheVariants.{PastEnd, Whole}
+use Rattle.std.specs.Prelude.{Some, None}
+use Rattle.wire_read.specs.declared.Found.{Found}
 use Rattle.wire_read.specs.Finding.{head_at, found_at, data_at}
 
 -- ---- the message at an offset
 
-pub found-past : (f : List ℕ) (at : ℕ) → length f < data_end f at → PastEnd ≡ found_at f at
+pub found-past : (f : List ℕ) (at : ℕ) → length f < data_end f at → None ≡ found_at f at
 unfolding found_at
 found-past f at h = rw (lt-leb (data_end f at) (length f) h)
 
 pub found-whole : (f : List ℕ) (at : ℕ) → data_end f at ≤ length f
-    → Whole (head_at f at) (field f (at + 20) 2) (follows (field f (at + 23) 1)) (next_header (data_end f at))
+    → Some (record {
+      header = head_at f at;
+      len = field f (at + 20) 2;
+      more = follows (field f (at + 23) 1);
+      next = next_header (data_end f at);
+    })
     ≡ found_at f at
 unfolding found_at
 found-whole f at h = rw (le-leb (data_end f at) (length f) h)
@@ -50,20 +56,18 @@ pub record IsWhole (f : List ℕ) (at : ℕ) (h : MessageHeader) (len : ℕ) (mo
   pub next-within : next < length f + 8 + 10
   pub bytes-are : length (message_at f at).bytes ≡ len
 
-pub is_whole : {f : List ℕ} {at : ℕ} {h : MessageHeader} {len : ℕ} {more : Bool} {next : ℕ}
-    → found_at f at ≡ Whole h len more next → IsWhole f at h len more next
+pub is_whole : {f : List ℕ} {at : ℕ} {x : Found} → found_at f at ≡ Some x → IsWhole f at x.header x.len x.more x.next
 unfolding message_at
-is_whole {f} {at} {h} {len} {more} {next} e = go (dec_le (data_end f at) (length f))
+is_whole {f} {at} {x} e = go (dec_le (data_end f at) (length f))
   where
-    go : Dec (data_end f at ≤ length f) → IsWhole f at h len more next
+    go : Dec (data_end f at ≤ length f) → IsWhole f at x.header x.len x.more x.next
     go (no past) =
-        let q : PastEnd ≡ Whole h len more next = found-past f at (omega arith) ∙ e in
-        let z : ◌≡◌ {A = ℕ} 0 1 = cc in
-        absurd (omega arith)
+        let q : None ≡ Some x = found-past f at (omega arith) ∙ e in
+        absurd cc
     go (yes inside) =
         let q = found-whole f at inside ∙ e in
-        let l : len ≡ field f (at + 20) 2 = cc in
-        let n : next ≡ next_header (data_end f at) = cc in
+        let l : x.len ≡ field f (at + 20) 2 = cc in
+        let n : x.next ≡ next_header (data_end f at) = cc in
         let room : field f (at + 20) 2 ≤ length (drop (at + 24) f) = omega (arith, length-drop (at + 24) f) in
         record {
           header_is = cc;
@@ -76,15 +80,14 @@ is_whole {f} {at} {h} {len} {more} {next} e = go (dec_le (data_end f at) (length
           bytes-are = length-take-le (field f (at + 20) 2) (drop (at + 24) f) room ∙ sym l;
         }
 
-pub is-past : (f : List ℕ) (at : ℕ) → found_at f at ≡ PastEnd → length f < data_end f at
+pub is-past : (f : List ℕ) (at : ℕ) → found_at f at ≡ None → length f < data_end f at
 is-past f at e = go (dec_le (data_end f at) (length f))
   where
     go : Dec (data_end f at ≤ length f) → length f < data_end f at
     go (no past) = omega arith
     go (yes inside) =
         let q = found-whole f at inside ∙ e in
-        let z : ◌≡◌ {A = ℕ} 0 1 = cc in
-        absurd (omega arith)
+        absurd cc
 
 -- ---- the messages from an offset on, one step at a time
 

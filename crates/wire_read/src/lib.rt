@@ -4,114 +4,77 @@
 
 pub mod layout;
 
-ghost use Rattle.std.specs.Prelude.{◌≡◌, ◌+◌, ◌≤◌, ◌<◌, length};
+ghost use Rattle.std.specs.Prelude.{◌≡◌, ◌<◌, length, MatchOption};
 ghost use Rattle.octets.specs.Octets.{field};
-ghost use Rattle.wire_read.specs.Finding.{header_of, head_at, found_at, data_at};
+ghost use Rattle.wire.specs.Reading.{data_end};
+ghost use Rattle.wire_read.specs.Finding.{header_of, head_at, found_at, Parts, data_at};
 
 use seq::{FrameNo, TransNo};
-use wire::{FrameHeader, MessageHeader};
+use wire::{FRAME_HEADER, FrameHeader, MESSAGE_HEADER, MessageHeader};
 
-// What stands at an offset.
-#[derive(Clone, Copy)]
-pub enum Found {
-    // A message header or its data passes the frame's end.
-    PastEnd,
-    // The header, the length of the data behind it, whether another message follows, and where its header would stand.
-    Whole(MessageHeader, u16, bool, usize),
+// The message that stands at an offset: its header, the length of the data behind it, whether another message follows,
+// and where that one's header would stand.
+#[derive(Clone, Copy, Debug, PartialEq, Eq, Hash)]
+pub struct Found {
+    pub header: MessageHeader,
+    pub len: u16,
+    pub more: bool,
+    pub next: usize,
 }
 
-fn wide16(b: u8) -> u16
-    ensures { (result ≡ b) × (result < 256) }
+// The frame header. Bytes past the end of the frame count as 0. Where all of it is there, one test tells, and the
+// fields are read without a test of their own.
+#[inline(always)]
+pub fn frame_header(f: &[u8]) -> FrameHeader
+    ensures { result ≡ header_of f.now }
 {
-    b as u16
+    match f.first_chunk::<FRAME_HEADER>() {
+        Some(head) => header_fields(head),
+        None => short_header(f),
+    }
 }
 
-fn wide32(b: u8) -> u32
-    ensures { (result ≡ b) × (result < 256) }
+// The header of a frame in which some of it is missing.
+#[cold]
+#[inline(never)]
+fn short_header(f: &[u8]) -> FrameHeader
+    ensures { result ≡ header_of f.now }
 {
-    b as u32
+    header_fields(f)
 }
 
-fn u16_in(f: &[u8], at: usize) -> u16
-    requires { at + 2 ≤ length f.now }
-    ensures { result ≡ field f.now at 2 }
+#[inline(always)]
+fn header_fields(f: &[u8]) -> FrameHeader
+    ensures { result ≡ header_of f.now }
 {
-    wide16(f[at]) + 256 * wide16(f[at + 1])
-}
-
-fn u32_in(f: &[u8], at: usize) -> u32
-    requires { at + 4 ≤ length f.now }
-    ensures { result ≡ field f.now at 4 }
-{
-    wide32(f[at]) + 256 * (wide32(f[at + 1]) + 256 * (wide32(f[at + 2]) + 256 * wide32(f[at + 3])))
+    FrameHeader {
+        destination: octets::u16_at(f, 0),
+        source: octets::u16_at(f, 2),
+        number: FrameNo(octets::u16_at(f, 4)),
+        ackstart: FrameNo(octets::u16_at(f, 6)),
+        ackcount: byte_or_zero(f, 8),
+        flags: byte_or_zero(f, 9),
+    }
 }
 
 // A byte of the frame, and 0 past its end.
 fn byte_or_zero(f: &[u8], at: usize) -> u8
     ensures { result ≡ field f.now at 1 }
 {
-    if at < f.len() {
-        return f[at];
-    }
-    0
+    f.get(at).copied().unwrap_or(0)
 }
 
-fn u16_or_zero(f: &[u8], at: usize) -> u16
-    requires { at < 10 }
-    ensures { result ≡ field f.now at 2 }
-{
-    wide16(byte_or_zero(f, at)) + 256 * wide16(byte_or_zero(f, at + 1))
-}
-
-// The frame header. Bytes past the end of the frame count as 0.
-pub fn frame_header(f: &[u8]) -> FrameHeader
-    ensures { result ≡ header_of f.now }
-{
-    FrameHeader {
-        destination: u16_or_zero(f, 0),
-        source: u16_or_zero(f, 2),
-        number: FrameNo(u16_or_zero(f, 4)),
-        ackstart: FrameNo(u16_or_zero(f, 6)),
-        ackcount: byte_or_zero(f, 8),
-        flags: byte_or_zero(f, 9),
-    }
-}
-
-fn header_in(f: &[u8], at: usize) -> MessageHeader
-    requires { at + 24 ≤ length f.now }
-    ensures { result ≡ head_at f.now at }
-{
-    MessageHeader {
-        trans: TransNo(u32_in(f, at)),
-        completion_address: u32_in(f, at + 4),
-        completion_value: u32_in(f, at + 8),
-        count: u16_in(f, at + 12),
-        data_address: u32_in(f, at + 16),
-    }
-}
-
-// The message whose header stands at an offset.
-pub fn message_at(f: &[u8], at: usize) -> Found
+// The message whose header stands at an offset; none where its header or its data passes the frame's end.
+pub fn message_at(f: &[u8], at: usize) -> Option<Found>
     ensures { result ≡ found_at f.now at }
 {
-    let size = f.len();
-    if size < wire::MESSAGE_HEADER {
-        return Found::PastEnd;
-    }
-    if size - wire::MESSAGE_HEADER < at {
-        return Found::PastEnd;
-    }
-    let len = u16_in(f, at + wire::LENGTH_AT);
-    let end = at + wire::MESSAGE_HEADER + len as usize;
-    if size < end {
-        return Found::PastEnd;
-    }
-    Found::Whole(
-        header_in(f, at),
-        len,
-        f[at + wire::TRAILING_AT] != 0,
-        wire::next_header(end),
-    )
+    let (header, data) = parts_at(f, at)?;
+    Some(Found {
+        header: header_in(header),
+        len: octets::u16_at(header, wire::LENGTH_AT),
+        more: header[wire::TRAILING_AT] != 0,
+        next: wire::next_header(at + MESSAGE_HEADER + data.len()),
+    })
 }
 
 // The data of the message whose header stands at an offset: the part of the frame past the 24-byte header. No bytes
@@ -119,17 +82,31 @@ pub fn message_at(f: &[u8], at: usize) -> Found
 pub fn data_at(f: &[u8], at: usize) -> &[u8]
     ensures { result.now ≡ data_at f.now at }
 {
-    let size = f.len();
-    if size < wire::MESSAGE_HEADER {
-        return &f[..0];
+    match parts_at(f, at) {
+        Some((_, data)) => data,
+        None => &[],
     }
-    if size - wire::MESSAGE_HEADER < at {
-        return &f[..0];
+}
+
+// The same message as its header's bytes and its data.
+fn parts_at(f: &[u8], at: usize) -> Option<(&[u8; MESSAGE_HEADER], &[u8])>
+    ensures { MatchOption result (length f.now < data_end f.now at) (λ p. Parts f.now at p.0.now p.1.now) }
+{
+    let (header, rest) = f.get(at..)?.split_first_chunk::<MESSAGE_HEADER>()?;
+    let len = octets::u16_at(header, wire::LENGTH_AT);
+    let data = rest.get(..usize::from(len))?;
+    Some((header, data))
+}
+
+// A message's header from its bytes.
+fn header_in(header: &[u8; MESSAGE_HEADER]) -> MessageHeader
+    ensures { result ≡ head_at header.now 0 }
+{
+    MessageHeader {
+        trans: TransNo(octets::u32_at(header, 0)),
+        completion_address: octets::u32_at(header, 4),
+        completion_value: octets::u32_at(header, 8),
+        count: octets::u16_at(header, 12),
+        data_address: octets::u32_at(header, 16),
     }
-    let start = at + wire::MESSAGE_HEADER;
-    let end = start + u16_in(f, at + wire::LENGTH_AT) as usize;
-    if size < end {
-        return &f[..0];
-    }
-    &f[start..end]
 }

@@ -5,7 +5,7 @@ ghost use Rattle.wire.specs.Format.{carrying};
 ghost use Rattle.wire.specs.Writing.{frame_head, message_head, ack_frame};
 
 use seq::FrameNo;
-use wire::{FRAME_HEADER, MESSAGE_HEADER, MessageHeader};
+use wire::{FRAME_HEADER, LENGTH_AT, MESSAGE_HEADER, MessageHeader, TRAILING_AT};
 
 // What stands in a byte of a field that has no use.
 const UNUSED: u8 = 0;
@@ -21,18 +21,14 @@ pub(crate) fn frame_head(
 ) -> [u8; FRAME_HEADER]
     ensures { result ≡ frame_head to from number.0 start.0 count flags }
 {
-    [
-        (to % 256) as u8,
-        (to / 256 % 256) as u8,
-        (from % 256) as u8,
-        (from / 256 % 256) as u8,
-        (number.0 % 256) as u8,
-        (number.0 / 256 % 256) as u8,
-        (start.0 % 256) as u8,
-        (start.0 / 256 % 256) as u8,
-        count,
-        flags,
-    ]
+    let mut head = [0; FRAME_HEADER];
+    head[..2].copy_from_slice(&to.to_le_bytes());
+    head[2..4].copy_from_slice(&from.to_le_bytes());
+    head[4..6].copy_from_slice(&number.0.to_le_bytes());
+    head[6..8].copy_from_slice(&start.0.to_le_bytes());
+    head[8] = count;
+    head[9] = flags;
+    head
 }
 
 // An acknowledgement of count numbers from start on, from an end whose next message frame will have this number: the
@@ -56,36 +52,13 @@ pub fn ack_frame(
 pub(crate) fn message_head(h: MessageHeader, payload: &[u8]) -> [u8; MESSAGE_HEADER]
     ensures { result ≡ message_head (carrying h payload.now) 0 }
 {
-    let trans = h.trans.0;
-    let address = h.completion_address;
-    let value = h.completion_value;
-    let count = h.count;
-    let at = h.data_address;
-    let len = payload.len();
-    [
-        (trans % 256) as u8,
-        (trans / 256 % 256) as u8,
-        (trans / 256 / 256 % 256) as u8,
-        (trans / 256 / 256 / 256 % 256) as u8,
-        (address % 256) as u8,
-        (address / 256 % 256) as u8,
-        (address / 256 / 256 % 256) as u8,
-        (address / 256 / 256 / 256 % 256) as u8,
-        (value % 256) as u8,
-        (value / 256 % 256) as u8,
-        (value / 256 / 256 % 256) as u8,
-        (value / 256 / 256 / 256 % 256) as u8,
-        (count % 256) as u8,
-        (count / 256 % 256) as u8,
-        UNUSED,
-        UNUSED,
-        (at % 256) as u8,
-        (at / 256 % 256) as u8,
-        (at / 256 / 256 % 256) as u8,
-        (at / 256 / 256 / 256 % 256) as u8,
-        (len % 256) as u8,
-        (len / 256 % 256) as u8,
-        UNUSED,
-        0,
-    ]
+    let mut head = [UNUSED; MESSAGE_HEADER];
+    head[..4].copy_from_slice(&h.trans.0.to_le_bytes());
+    head[4..8].copy_from_slice(&h.completion_address.to_le_bytes());
+    head[8..12].copy_from_slice(&h.completion_value.to_le_bytes());
+    head[12..14].copy_from_slice(&h.count.to_le_bytes());
+    head[16..20].copy_from_slice(&h.data_address.to_le_bytes());
+    head[LENGTH_AT..22].copy_from_slice(&payload.len().to_le_bytes()[..2]);
+    head[TRAILING_AT] = 0;
+    head
 }

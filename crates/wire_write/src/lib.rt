@@ -27,22 +27,17 @@ fn put_message(slot: &mut [u8], at: usize, h: MessageHeader, payload: &[u8])
 }
 
 // Whether a message whose header stands at an offset lies in the slot, and its frame is no longer than a frame may be.
+#[tactic(auto, using(std::proofs::lemmas::Bool::Decides::nat_tests), unfolding(wire::specs::Writing::room_for))]
 fn has_room(slot: &[u8], at: usize, payload: &[u8]) -> bool
     requires { at ≤ 9010 }
     ensures { result ≡ room_for slot.now (at + 24 + length payload.now) }
 {
-    let n = payload.len();
-    if wire::FRAME_MOST < at + wire::MESSAGE_HEADER {
-        return false;
-    }
-    if wire::FRAME_MOST - at - wire::MESSAGE_HEADER < n {
-        return false;
-    }
-    at + wire::MESSAGE_HEADER + n <= slot.len()
+    let end = at + wire::MESSAGE_HEADER + payload.len();
+    end <= wire::FRAME_MOST && end <= slot.len()
 }
 
 // The first message of a frame: the frame header and the message, from the slot's start on. Answers whether there was
-// room.
+// room: a bool, since no value comes with the answer and there is one reason for no.
 pub fn write_first(
     slot: &mut [u8],
     to: u16,
@@ -99,7 +94,8 @@ fn header_behind(used: usize) -> usize
     wire::next_header(used)
 }
 
-// Says in the message header at an offset that another message follows.
+// Says in the message header at an offset that another message follows. The sum might not fit, so it is not formed
+// before it is known to.
 fn set_follows(slot: &mut [u8], last: usize)
     ensures { slot.new ≡ set slot.old (last + 23) 1 }
 {

@@ -82,6 +82,15 @@ part-past width n x j h l =
     let most : 2 ^ (width * n) ≤ 2 ^ (width * j) = pow_mono (mul-le-mul_left width l) in
     ap (λ (k : ℕ). k % 2 ^ width) (div-eq_of_lt (lt_of_lt_of_le h most)) ∙ zero-mod (2 ^ width)
 
+-- the word shifted to part j, where a shift that is too long for a word is one by k, too long as well
+pub shifted_to : (width x j k r : ℕ) → x < 2 ^ 64 → (k < 64 → k ≡ width * j) → (64 ≤ k → 64 ≤ width * j)
+    → (k < 64 → r ≡ x / 2 ^ k) → (64 ≤ k → r ≡ 0) → r ≡ x / 2 ^ (width * j)
+shifted_to width x j k r h near far some none = go (dec_lt k 64)
+  where
+    go : Dec (k < 64) → r ≡ x / 2 ^ (width * j)
+    go (yes l) = some l ∙ ap (λ (n : ℕ). x / 2 ^ n) (near l)
+    go (no l) = none (omega arith) ∙ sym (div-eq_of_lt (lt_of_lt_of_le h (pow_mono (far (omega arith)))))
+
 pub part_none : (width j : ℕ) → part width 0 j ≡ 0
 part_none width j = part-past width 0 0 j (pow_pos (width * 0)) zero-le
 

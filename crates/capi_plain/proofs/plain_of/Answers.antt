@@ -5,4 +5,4 @@ use Rattle.capi_plain.proofs.plain_of.Goals as goal
 
 pub returns : goal.returns
 unfolding plain_of
-returns c = rw (c.table_of.ensures, c.closed_of.ensures, c.accepted_of.ensures)
+returns c = rw (c.table_of.ensures, c.marks_from.ensures, c.marks_from-2.ensures)

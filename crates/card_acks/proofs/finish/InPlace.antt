@@ -1,9 +1,9 @@
 -- Which transactions are looked at, and what is read of the words against the definitions of the card that they hold.
 -- Assumes nothing.
 use mathlib.Core.Path.{◌≡◌, ap, ◌∙◌}
-use mathlib.Core.Bool.{cond, or-false, and_comm}
+use mathlib.Core.Bool.{or-false, and_comm}
 use mathlib.Core.List.{List}
-use Prim.Native.Nat.{ℕ, ◌+◌, ◌%◌, ◌≤◌, ◌<◌}
+use Prim.Native.Nat.{ℕ, ◌+◌, ◌%◌, ◌≤◌, ◌<◌, min}
 use native.Mathlib.Nat.{lt_of_le_of_lt}
 use native.Mathlib.Decide.{dec_lt}
 use native.Mathlib.Omega.{arith}
@@ -31,25 +31,14 @@ entry-is s lowest i =
     ap (λ (n : ℕ). get_or s.table n no_sending) e
 
 -- how many are looked at
-module _ (s : Sendings) (from base most : ℕ) (is : most ≡ cond (ltb (opened s) 32) (opened s) 32) where
-  most-is : (most ≤ 32) × (most ≤ opened s)
-  most-is = go (dec_lt (opened s) 32)
-    where
-      go : Dec (opened s < 32) → (most ≤ 32) × (most ≤ opened s)
-      go (yes l) =
-          let e : most ≡ opened s = is ∙ rw (lt-ltb (opened s) 32 l) in
-          (omega arith, omega arith)
-      go (no l) =
-          let e : most ≡ 32 = is ∙ rw (le-ltb (opened s) 32 (omega arith)) in
-          (omega arith, omega arith)
-
+module _ (s : Sendings) (from base most : ℕ) (is : most ≡ min (opened s) 32) where
   pub within-32 : (i : ℕ) → i < most → i < 32
-  within-32 i l = omega (arith, most-is.0)
+  within-32 i l = omega arith
 
   pub one-is : (i finished lowest : ℕ) → i < most → finished ≡ s.finished → lowest ≡ s.lowest.0
       → finished_now s finished lowest from base i ≡ finished_by s from base i
   unfolding finished_now finished_by
-  one-is i finished lowest l f w = rw (f, w, lt-ltb i (opened s) (omega (arith, most-is.1)))
+  one-is i finished lowest l f w = rw (f, w, lt-ltb i (opened s) (omega arith))
 
   pub finished-all : {i word : ℕ} → MarkedUpTo 32 (finished_by s from base) i word → most ≤ i
       → word ≡ marks_of 32 (finished_by s from base)
@@ -58,11 +47,11 @@ module _ (s : Sendings) (from base most : ℕ) (is : most ≡ cond (ltb (opened 
     where
       go : Dec (opened s < 32) → word ≡ marks_of 32 (finished_by s from base)
       go (yes l) =
-          let e : most ≡ opened s = is ∙ rw (lt-ltb (opened s) 32 l) in
+          let e : most ≡ opened s = omega arith in
           m.word-is
           ∙ marks-cut 32 i (finished_by s from base) m.within (λ j k. rw (le-ltb j (opened s) (omega arith)))
       go (no l) =
-          let e : most ≡ 32 = is ∙ rw (le-ltb (opened s) 32 (omega arith)) in
+          let e : most ≡ 32 = omega arith in
           all-marked 32 (finished_by s from base) m (omega arith)
 
 -- those finished before have a mark and are opened
@@ -101,6 +90,6 @@ module _ (w : List ℕ) (h : Head) (head-is : h ≡ head_part (card_of w)) where
   pub lowest-is : h.lowest.0 ≡ (card_of w).sendings.lowest.0
   lowest-is = rw head-is
 
-  pub looked-at : (n most : ℕ) → n ≡ distance trans_space h.lowest.0 h.upcoming.0 → most ≡ cond (ltb n 32) n 32
-      → most ≡ cond (ltb (opened (card_of w).sendings) 32) (opened (card_of w).sendings) 32
+  pub looked-at : (n most : ℕ) → n ≡ distance trans_space h.lowest.0 h.upcoming.0 → most ≡ min n 32
+      → most ≡ min (opened (card_of w).sendings) 32
   looked-at n most n-is is = rw (n-is, head-is) at is

@@ -14,8 +14,8 @@ overflow_add-e c =
           c.sending_at-e.ensures (search rules),
     )
 
-pub overflow_add-next : goal.overflow_add-next
-overflow_add-next c =
+pub overflow_add-start : goal.overflow_add-start
+overflow_add-start c =
     let a = c.args in
     omega (
       arith,
@@ -23,8 +23,8 @@ overflow_add-next c =
           c.requires.payload_bound,
     )
 
-pub overflow_add-next-2 : goal.overflow_add-next-2
-overflow_add-next-2 c =
+pub overflow_add-start-2 : goal.overflow_add-start-2
+overflow_add-start-2 c =
     let a = c.args in
     omega (
       arith,
@@ -32,8 +32,8 @@ overflow_add-next-2 c =
           c.requires.payload_bound,
     )
 
-pub overflow_cast-next : goal.overflow_cast-next
-overflow_cast-next c =
+pub overflow_cast-start : goal.overflow_cast-start
+overflow_cast-start c =
     let a = c.args in
     omega (
       arith,
@@ -41,8 +41,8 @@ overflow_cast-next c =
           c.requires.payload_bound,
     )
 
-pub overflow_cast-next-2 : goal.overflow_cast-next-2
-overflow_cast-next-2 c =
+pub overflow_cast-start-2 : goal.overflow_cast-start-2
+overflow_cast-start-2 c =
     let a = c.args in
     omega (
       arith,

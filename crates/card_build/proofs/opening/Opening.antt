@@ -3,7 +3,7 @@
 use mathlib.Core.Path.{◌≡◌, refl, ◌∙◌}
 use mathlib.Core.Logic.{◌≢◌}
 use mathlib.Core.List.{List}
-use Prim.Native.Nat.{ℕ, ◌+◌, ◌*◌, ◌/◌, ◌%◌, ◌≤◌, ◌<◌}
+use Prim.Native.Nat.{ℕ, zero, suc, ◌+◌, ◌*◌, ◌/◌, ◌%◌, ◌≤◌, ◌<◌}
 use native.Mathlib.Nat.{not-suc-le-zero}
 use native.Mathlib.Decide.{dec_lt, ℕ_discrete}
 use native.Mathlib.Omega.{arith}
@@ -19,10 +19,18 @@ use Rattle.card.specs.Sendings.{no_sending, no_sendings}
 use Rattle.card.specs.Card.{fresh_card, card_refusal, open_card}
 use Rattle.card_words.specs.declared.Head.{Head}
 use Rattle.card_words.specs.Words.{size_in, sending_in, card_of, with_head}
-use Rattle.card_build.specs.Clearing.{Zeros}
+
+-- every word is 0
+abbrev Zeros : List ℕ → Type 0
+Zeros w = (k : ℕ) → get_or w k 0 ≡ 0
+
+zero-words : (n : ℕ) → Zeros (replicate n 0)
+zero-words zero k = refl
+zero-words (suc n) zero = refl
+zero-words (suc n) (suc k) = zero-words n k
 
 -- words of 0 are a card with nothing in it
-pub blank-card : (w : List ℕ) → Zeros w → card_of w ≡ fresh_card 0 0 0
+blank-card : (w : List ℕ) → Zeros w → card_of w ≡ fresh_card 0 0 0
 unfolding card_of fresh_card empty_window no_sendings
 blank-card w clear =
     let sizes : listed (size_in w) 0 64 ≡ replicate 64 0 = listed-all (size_in w) 0 64 0 no_size in
@@ -59,6 +67,9 @@ blank-card w clear =
           part_none 16 2,
         )
 
+pub cleared-card : (n : ℕ) (w : List ℕ) → w ≡ replicate n 0 → card_of w ≡ fresh_card 0 0 0
+cleared-card n w e = rw e (blank-card (replicate n 0) (zero-words n))
+
 abbrev fresh_head : ℕ → ℕ → ℕ → Head
 fresh_head own peer limit = record {
   own = own;
@@ -88,31 +99,3 @@ module _ (own peer limit : ℕ) (slots : List ℕ) (r : ℕ) (is : r ≡ card_re
   pub opening-done : r ≡ 0 → open_card own peer limit slots ≡ record { card = fresh_card own peer limit; refusal = 0 }
   unfolding open_card
   opening-done e = rw (← is, eq-eqb r 0 e)
-
--- what a loop that clears the words did so far
-pub record Cleared (w₀ w : List ℕ) (i : ℕ) : Type 0 where
-  pub within : i ≤ length w₀
-  pub same : length w ≡ length w₀
-  pub done : (k : ℕ) → k < i → get_or w k 0 ≡ 0
-
-pub none-cleared : (w : List ℕ) → Cleared w w 0
-none-cleared w = record { within = omega arith; same = refl; done = λ k h. absurd (not-suc-le-zero h) }
-
-pub one-cleared : {w₀ w : List ℕ} {i : ℕ} → Cleared w₀ w i → i < length w → Cleared w₀ (set w i 0) (i + 1)
-one-cleared {w₀} {w} {i} c h =
-    record {
-      within = omega (arith, c.same);
-      same = length-set w i 0 ∙ c.same;
-      done = λ k l. go k l (ℕ_discrete k i);
-    }
-  where
-    go : (k : ℕ) → k < i + 1 → Dec (k ≡ i) → get_or (set w i 0) k 0 ≡ 0
-    go k l (yes e) = rw e (get_or-set_same w i 0 0 h)
-    go k l (no e) = get_or-set_other w i k 0 0 e ∙ c.done k (omega arith)
-
-pub all-cleared : {w₀ w : List ℕ} {i : ℕ} → Cleared w₀ w i → length w ≤ i → Zeros w
-all-cleared {w₀} {w} {i} c h k = go (dec_lt k i)
-  where
-    go : Dec (k < i) → get_or w k 0 ≡ 0
-    go (yes l) = c.done k l
-    go (no l) = get_or-out w k (omega arith)

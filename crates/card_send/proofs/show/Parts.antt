@@ -10,6 +10,9 @@ use native.Mathlib.Omega.{arith}
 use borrow.Author.Tests.{lt-ltb, le-ltb, le-leb, lt-leb, eq-eqb, ne_eqb}
 use lib.Dec.{eqb}
 use lib.ListN.{length}
+use Rattle.refusal.specs.declared.Reason.{Reason}
+use Rattle.refusal.specs.Reason.{number}
+use Rattle.refusal.proofs.Numbers.{number-positive}
 use Rattle.seq.specs.Ring.{frame_space, distance}
 use Rattle.bitmap.specs.Marks.{mark}
 use Rattle.card.specs.declared.Card.{Card}
@@ -103,6 +106,34 @@ module _ (w slots : List ℕ) (n r : ℕ) (is : r ≡ or_other_length w (show_re
           let k : r ≡ show_refusal (card_of w) slots n = is ∙ rw x in
           rw (x, ← k, eq-eqb r 0 e)
 
+module _ (w slots : List ℕ) (n : ℕ) where
+  -- the refusal is told as it is
+  pub showing-refused : (reason : Reason) → number reason ≡ or_other_length w (show_refusal (card_of w) slots n)
+      → number reason ≡ (shown_part w slots n).refusal
+  unfolding shown_part
+  showing-refused reason is =
+      rw (← is, ne_eqb (number reason) 0 (λ z. omega (arith, number-positive reason)))
+
+  -- and comes with no part
+  pub no-part-shown : (shown_part w slots n).refusal ≢ 0 → (shown_part w slots n).part ≡ no_part
+  unfolding shown_part
+  no-part-shown ne = go (eqb (or_other_length w (show_refusal (card_of w) slots n)) 0) refl
+    where
+      go : (b : Bool) → eqb (or_other_length w (show_refusal (card_of w) slots n)) 0 ≡ b
+          → (shown_part w slots n).part ≡ no_part
+      go false y = rw y
+      go true y = absurd (ne (rw y))
+
+  -- the same where the refusal is told without a look at the words' length
+  pub unshown : (reason : Reason) → number reason ≡ show_refusal (card_of w) slots n
+      → (shown_part w slots n).part ≡ no_part
+  unfolding shown_part
+  unshown reason is = go (eqb (length w) card_words) refl
+    where
+      go : (a : Bool) → eqb (length w) card_words ≡ a → (shown_part w slots n).part ≡ no_part
+      go false x = rw x
+      go true x = rw (x, ← is, ne_eqb (number reason) 0 (λ z. omega (arith, number-positive reason)))
+
 -- offset and length are those of the part
 pub shown-is : (w slots : List ℕ) (n : ℕ) → PartIs (shown_part w slots n).part slots (shown_in w slots n)
 unfolding shown_part shown_in show_frame
@@ -113,3 +144,9 @@ shown-is w slots n = go (eqb (length w) card_words) refl (eqb (show_refusal (car
     go false x b y = rw x (none_is slots)
     go true x false y = rw (x, y) (none_is slots)
     go true x true y = rw (x, y) (frame_is (card_of w) slots n)
+
+pub nothing-shown : (w slots : List ℕ) (n : ℕ) (reason : Reason) → number reason ≡ (shown_part w slots n).refusal
+    → [] ≡ shown_in w slots n
+nothing-shown w slots n reason is =
+    let none = no-part-shown w slots n (λ z. omega (arith, number-positive reason)) in
+    rw none at (shown-is w slots n).is

@@ -3,7 +3,8 @@
 use mathlib.Core.Path.{◌≡◌, refl, sym, ◌∙◌, ap}
 use mathlib.Core.Bool.{Bool, true, false}
 use mathlib.Core.List.{List}
-use Prim.Native.Nat.{ℕ, zero, suc, ◌+◌, ◌-◌, ◌*◌, ◌/◌, ◌≤◌, ◌<◌, min}
+use Prim.Native.Nat.{ℕ, zero, suc, ◌+◌, ◌-◌, ◌*◌, ◌≤◌, ◌<◌}
+use mathlib.Core.Logic.{◌⊎◌, ⊎_elim}
 use native.Mathlib.Decide.{dec_lt}
 use native.Mathlib.Omega.{arith}
 use borrow.Author.Tests.{lt-ltb, le-ltb}
@@ -19,22 +20,7 @@ use Rattle.hexadecimal.specs.Pairs.{Front, pairs_most, value_at, pairs_from, fro
 -- ---- how many pairs there can be
 
 module _ (len size from end : ℕ) where
-  pub most-full : (most : ℕ) → most ≡ min 9001 size → most ≤ len → 0 - len ≡ pairs_most len size from end
-  unfolding pairs_most
-  most-full most e h = omega arith
-
-  pub most-past : end ≤ from → 0 - len ≡ pairs_most len size from end
-  unfolding pairs_most
-  most-past h = omega arith
-
-  pub most-sum : (most n : ℕ) → most ≡ min 9001 size → n ≡ min (most - len) ((end - from) / 2)
-      → len + n - len ≡ pairs_most len size from end
-  unfolding pairs_most
-  most-sum most n e f =
-      let g : len + n - len ≡ n = omega arith in
-      g ∙ f ∙ rw e
-
-  most-kept : pairs_most len size from end ≤ 9001 - len
+  pub most-kept : pairs_most len size from end ≤ 9001 - len
   unfolding pairs_most
   most-kept = omega arith
 
@@ -69,6 +55,7 @@ module _ (bad : Bool) (piece : List ℕ) (n at len half : ℕ) (frame : List ℕ
 -- ---- the loop: what was to be taken in all is what is left to take from here
 
 pub record Left (line : Line) (frame₀ piece : List ℕ) (from until len half at : ℕ) (frame : List ℕ) : Type 0 where
+  pub even : line.odd ≡ false
   pub size : length frame ≡ length frame₀
   pub fits : until - len ≤ length frame - len
   pub room : 2 * (until - len) ≤ length piece - at
@@ -76,7 +63,7 @@ pub record Left (line : Line) (frame₀ piece : List ℕ) (from until len half a
 
 abbrev Answers : Line → List ℕ → List ℕ → ℕ → ℕ → ℕ → ℕ → List ℕ → Type 0
 Answers line frame₀ piece from len half at frame =
-    (taken_of len half false line.bad at false ≡ (front_of line frame₀ piece from).taken)
+    (taken_of len half line.odd line.bad at false ≡ (front_of line frame₀ piece from).taken)
     × (frame ≡ (front_of line frame₀ piece from).frame)
 
 pub left-start : (line : Line) (frame piece : List ℕ) (from until : ℕ) → line.odd ≡ false
@@ -87,6 +74,7 @@ left-start line frame piece from until e u =
     let size = length frame in
     let end = length piece in
     record {
+      even = e;
       size = refl;
       fits = rw u (most-size line.len size from end);
       room = rw u (most-piece line.len size from end);
@@ -94,7 +82,7 @@ left-start line frame piece from until e u =
     }
 
 pub left-waiting : (line : Line) (frame piece : List ℕ) (from : ℕ) → line.odd ≡ true
-    → (taken_of line.len line.half true line.bad from false ≡ (front_of line frame piece from).taken)
+    → (taken_of line.len line.half line.odd line.bad from false ≡ (front_of line frame piece from).taken)
     × (frame ≡ (front_of line frame piece from).frame)
 unfolding front_of
 left-waiting line frame piece from e = rw e (refl, refl)
@@ -104,7 +92,10 @@ module _ {line : Line} {frame₀ piece : List ℕ} {from until len half at : ℕ
   answers : front_of line frame₀ piece from ≡ pairs_from line.bad piece zero at len half frame
       → Answers line frame₀ piece from len half at frame
   unfolding pairs_from
-  answers e = (sym (ap (λ (f : Front). f.taken) e), sym (ap (λ (f : Front). f.frame) e))
+  answers e = (
+    ap (λ (o : Bool). taken_of len half o line.bad at false) w.even ∙ sym (ap (λ (f : Front). f.taken) e),
+    sym (ap (λ (f : Front). f.frame) e),
+  )
 
   one_more : len < until
       → front_of line frame₀ piece from ≡ pairs_from line.bad piece (suc (until - (len + 1))) at len half frame
@@ -118,17 +109,21 @@ module _ {line : Line} {frame₀ piece : List ℕ} {from until len half at : ℕ
       answers (w.is ∙ rw e)
 
   module _ (h : len < until) (a b : ℕ) (ea : a ≡ value_at piece at) (eb : b ≡ value_at piece (at + 1)) where
-    pub left-high : 15 < a → Answers line frame₀ piece from len half at frame
+    left-high : 15 < a → Answers line frame₀ piece from len half at frame
     left-high k = answers (one_more h ∙ stops-high line.bad piece _ at len half frame (rw (← ea) k))
 
-    pub left-low : a ≤ 15 → 15 < b → Answers line frame₀ piece from len half at frame
+    left-low : a ≤ 15 → 15 < b → Answers line frame₀ piece from len half at frame
     left-low l k =
         answers (one_more h ∙ stops-low line.bad piece _ at len half frame (rw (← ea) l) (rw (← eb) k))
+
+    pub left-stops : (15 < a) ⊎ ((a ≤ 15) × (15 < b)) → Answers line frame₀ piece from len half at frame
+    left-stops = ⊎_elim left-high (λ k. left-low k.0 k.1)
 
     pub left-turn : a ≤ 15 → b ≤ 15
         → Left line frame₀ piece from until (len + 1) a (at + 2) (set frame len (a * 16 + b))
     left-turn l k =
         record {
+          even = w.even;
           size = length-set frame len (a * 16 + b) ∙ w.size;
           fits = rw (length-set frame len (a * 16 + b)) (omega (arith, w.fits));
           room = omega (arith, w.room);

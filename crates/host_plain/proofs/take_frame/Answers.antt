@@ -1,18 +1,16 @@
--- `host_plain::take_frame`: gone through without writing, and with writing where none is refused.
+-- `host_plain::take_frame`: a refusal leaves all as it was, and else the frame is marked.
 -- Assumes nothing.
 use Rattle.std.proofs.Common.{refl}
 use Rattle.host_plain.proofs.Receiving.{stopped, took}
 use Rattle.host_plain.proofs.take_frame.Goals as goal
 
-pub returns-then-rehearsed-ne0 : goal.returns-then-rehearsed-ne0
-returns-then-rehearsed-ne0 c =
+pub returns-in-Err : goal.returns-in-Err
+returns-in-Err c =
     let a = c.args in
-    rw c.refuse.ensures
-    (stopped a.pair a.f.now a.memory.now a.number.0 _ _ c.take_all-rehearsed.ensures c.if-rehearsed-ne0.true)
+    rw c.refuse.ensures (stopped a.pair a.f.now a.memory.now a.number.0 _ _ (rw (← c.in-Err.is) c.take_all_or_none.ensures))
 
-pub returns : goal.returns
-returns c =
+pub returns-in-Ok : goal.returns-in-Ok
+returns-in-Ok c =
     let a = c.args in
-    took a.pair a.f.now a.memory.now a.number.0 _ _ c.take_all-rehearsed.ensures
-    c.if-rehearsed-ne0.false _ _
-    c.take_all-taken.ensures _ c.accept-frames.ensures a.number refl _ c.run_from.ensures
+    took a.pair a.f.now a.memory.now a.number.0 _ _ (rw (← c.in-Ok.is) c.take_all_or_none.ensures) _ c.accept.ensures
+    a.number refl _ c.run_from.ensures

@@ -5,7 +5,7 @@ use borrow.Author.Tests.{lt-leb}
 use Rattle.wire.specs.declared.MessageHeader.{MessageHeader}
 use Rattle.wire.specs.Format.{carrying, message_header, next_header}
 use Rattle.wire.specs.Reading.{data_end, message_at}
-use Rattle.wire_read.specs.declared.Found.TheVariants.{PastEnd}
+use Rattle.std.specs.Prelude.{None}
 use Rattle.wire_read.specs.Finding.{head_at, found_at, data_at}
 use Rattle.wire_read.proofs.Finding.{IsWhole, is-past, data-whole}
 use Rattle.host.specs.declared.Open.{Open}
@@ -88,7 +88,7 @@ module _ {w₀ f memory₀ : List ℕ} {n : ℕ} {w memory : List ℕ} {at i : �
     ap (λ (a : Applied). a.memory) (sym e),
   )
 
-  pub applying-past : found_at f at ≡ PastEnd
+  pub applying-past : found_at f at ≡ None
       → (pair_of w ≡ joined (head_part (pair_of w₀)) whole.table) × (memory ≡ whole.memory)
   applying-past e = ended (g.is ∙ applied-past f at (n - i) (pair_of w).table memory (is-past f at e))
 

@@ -1,24 +1,22 @@
 -- `host_receive::receive_in_place`: the heading's refusals, then the flag, then where the number lies.
 -- Assumes nothing.
-use Rattle.std.proofs.Common.{sym, refl, ◌∙◌}
+use Rattle.std.proofs.Common.{sym, refl, ◌∙◌, arith}
+use Rattle.refusal.proofs.Numbers.{number-positive, zero-at_ok}
 use Rattle.host_words.specs.Words.{pair_of}
 use Rattle.host_words.proofs.Words.{next-lt}
 use Rattle.host_receive.proofs.number.Window.{not_new, new_in}
 use Rattle.host_receive.proofs.Awaiting.{stays, awaited, refused-heading, framed, none-there, answered-by-number}
 use Rattle.host_receive.proofs.receive_in_place.Goals as goal
 
-pub returns-then-words-ne-WORDS : goal.returns-then-words-ne-WORDS
-returns-then-words-ne-WORDS c =
-    (λ l. absurd (c.if-words-ne-WORDS.true l), λ n. (refl, refl, c.refusing.ensures), λ q. refl)
-
-pub returns-then-stop-ne0 : goal.returns-then-stop-ne0
-returns-then-stop-ne0 c =
+pub returns-in-Err : goal.returns-in-Err
+returns-in-Err c =
     let a = c.args in
     let e = refused-heading (pair_of a.words.now) a.f.now _ _ _
-    c.own-own.ensures c.peer-peer.ensures
-    c.heading_refusal-stop.ensures a.memory.now c.if-stop-ne0.true in
+    c.own-own.ensures c.peer-peer.ensures (rw c.in-Err.is at c.check_heading.ensures) a.memory.now
+    (λ z. omega (arith, number-positive c.in-Err.reason, z)) in
     let s = stays _ _ _ _ e in
-    (λ l. (s.0, s.1, c.refusing-then-stop-ne0.ensures ∙ s.2), λ n. absurd (n c.if-words-ne-WORDS.false), λ q. refl)
+    let told = rw c.into-in-Err.ensures at c.refuse-in-Err.ensures in
+    (λ l. (s.0, s.1, told ∙ s.2), λ n. absurd (n c.if-words-ne-WORDS.false), λ q. refl)
 
 pub returns-then-head-eq0 : goal.returns-then-head-eq0
 returns-then-head-eq0 c =
@@ -27,7 +25,7 @@ returns-then-head-eq0 c =
     -- past the tests before: the words hold a pair, and the heading is not refused
     let long = c.if-words-ne-WORDS.false in
     let good =
-    framed p a.f.now _ _ _ c.own-own.ensures c.peer-peer.ensures c.heading_refusal-stop.ensures c.if-stop-ne0.false
+    framed p a.f.now _ _ _ c.own-own.ensures c.peer-peer.ensures c.check_heading.ensures (zero-at_ok c.in_default.is)
     in
     let s = stays _ _ _ _
     (none-there p a.f.now a.memory.now good _ c.frame_header-head.ensures c.if-head-eq0.true) in
@@ -40,10 +38,10 @@ returns-then-not-is_new c =
     -- past the tests before: the words hold a pair, and the heading is not refused
     let long = c.if-words-ne-WORDS.false in
     let good =
-    framed p a.f.now _ _ _ c.own-own.ensures c.peer-peer.ensures c.heading_refusal-stop.ensures c.if-stop-ne0.false
+    framed p a.f.now _ _ _ c.own-own.ensures c.peer-peer.ensures c.check_heading.ensures (zero-at_ok c.in_default.is)
     in
     let w = awaited p a.f.now good _ c.frame_header-head.ensures c.if-head-eq0.false _
-    (rw c.next-next.ensures at c.distance-d.ensures) (next-lt a.words.now)
+    (rw c.next.ensures at c.distance-d.ensures) (next-lt a.words.now)
     (rw c.marks-marks.ensures at c.marks-marks.type_inv) in
     let New-is = rw c.marks-marks.ensures at c.is_new.ensures in
     let old = not_new p.marks _ (sym New-is ∙ c.if-not-is_new.true) in
@@ -66,10 +64,10 @@ returns c =
     -- past the tests before: the words hold a pair, and the heading is not refused
     let long = c.if-words-ne-WORDS.false in
     let good =
-    framed p a.f.now _ _ _ c.own-own.ensures c.peer-peer.ensures c.heading_refusal-stop.ensures c.if-stop-ne0.false
+    framed p a.f.now _ _ _ c.own-own.ensures c.peer-peer.ensures c.check_heading.ensures (zero-at_ok c.in_default.is)
     in
     let w = awaited p a.f.now good _ c.frame_header-head.ensures c.if-head-eq0.false _
-    (rw c.next-next.ensures at c.distance-d.ensures) (next-lt a.words.now)
+    (rw c.next.ensures at c.distance-d.ensures) (next-lt a.words.now)
     (rw c.marks-marks.ensures at c.marks-marks.type_inv) in
     let New-is = rw c.marks-marks.ensures at c.is_new.ensures in
     let lies = new_in p.marks _ (sym New-is ∙ c.if-not-is_new.false) in

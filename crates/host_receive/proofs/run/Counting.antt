@@ -11,6 +11,9 @@ use Rattle.host.proofs.Runs.{run-behind, run-window-word, run-accepted}
 use Rattle.host_receive.specs.Counting.{run_behind, run_within, run_at}
 
 -- 64 marks have at most 64 ones: the count's byte has room for them
+pub ones_low : (marks : ℕ) → trailing_ones 64 marks ≤ 64
+ones_low marks = ones-le 64 marks
+
 pub within : (marks d : ℕ) → run_within marks d ≡ trailing_ones 64 (marks / 2 ^ d)
 unfolding run_within
 within marks d = omega (arith, ones-le 64 (marks / 2 ^ d))

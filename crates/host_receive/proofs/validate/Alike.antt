@@ -1,16 +1,14 @@
 -- Entries that a verdict does not tell apart: where nothing was received, what else an entry holds is not looked at.
 -- Assumes nothing.
-use Rattle.std.proofs.Common.{◌≡◌, ℕ, Bool, true, false, eqb, ◌⊎◌, sym, refl, ap, inl, inr, arith}
+use Rattle.std.proofs.Common.{◌≡◌, ℕ, Bool, true, false, eqb, sym, refl, ap, inl, inr, arith}
 use borrow.Author.Tests.{eqb-false}
 use Rattle.seq.specs.Ring.{distance, trans_space}
 use Rattle.wire.specs.declared.MessageHeader.{MessageHeader}
 use Rattle.host.specs.declared.Open.{Open}
 use Rattle.host.specs.declared.Verdict.{Verdict}
 use Rattle.host.specs.Terms.{free, agrees, terms_refusal, message_refusal}
+use Rattle.host_receive.specs.Keeping.{Alike}
 use Rattle.host.specs.Transactions.{fills, refused_verdict, closed_verdict, open_verdict, verdict_of}
-
-abbrev pub Alike : Open → Open → Type 0
-Alike a b = (a ≡ b) ⊎ ((a.received ≡ 0) × (b.received ≡ 0))
 
 module _ (o p : Open) (h : MessageHeader) (a : o.received ≡ 0) (b : p.received ≡ 0) where
   agree-alike : agrees o h ≡ agrees p h

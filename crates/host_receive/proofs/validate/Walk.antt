@@ -1,13 +1,17 @@
 -- The walk of the first pass, message by message, against its definition.
 -- Assumes nothing.
-use Rattle.std.proofs.Common.{◌≡◌, ℕ, zero, suc, ◌+◌, ◌*◌, ◌%◌, ◌<◌, ◌≤◌, Bool, true, false, cond, ◌≢◌, List, length, get_or, set, sym, refl, ap, ◌∙◌, arith, le-ltb, lt-ltb, eq-eqb, ne_eqb, le-leb}
+use Rattle.std.proofs.Common.{◌≡◌, ℕ, zero, suc, ◌+◌, ◌*◌, ◌%◌, ◌<◌, ◌≤◌, Bool, true, false, cond, not, ◌≢◌, List, length, get_or, set, sym, refl, ap, ◌∙◌, arith, le-ltb, lt-ltb, eq-eqb, ne_eqb, le-leb}
 use borrow.Author.Tests.{lt-leb}
+use Rattle.std.specs.Prelude.{Option, None, Some, Result, Ok, Err, IsErrAnd, MatchResult}
+use Rattle.std.proofs.lemmas.Result.{err_from_is_err_and}
+use mathlib.Core.Path.{subst}
+use mir.Val.{bool_byte}
+use Rattle.refusal.specs.Reason.{number}
+use Rattle.host_receive.specs.declared.refuse.Refused.{Refused}
 use Rattle.octets.specs.Octets.{field}
-use Rattle.bitmap.specs.Marks.{mark}
 use Rattle.wire.specs.declared.MessageHeader.{MessageHeader}
 use Rattle.wire.specs.Format.{message_header, next_header, frame_most}
 use Rattle.wire.specs.Reading.{follows, data_end, message_at}
-use Rattle.wire_read.specs.declared.Found.TheVariants.{PastEnd}
 use Rattle.wire_read.specs.Finding.{head_at, found_at}
 use Rattle.wire_read.proofs.Finding.{IsWhole, is-past}
 use Rattle.host.specs.declared.Open.{Open}
@@ -18,24 +22,16 @@ use Rattle.host.specs.Host.{transactions_of}
 use Rattle.host_words.specs.Words.{pair_of}
 use Rattle.host_receive.specs.Validating.{
   Progress,
+  Validation,
   none_yet,
   onward,
   refused_at,
   passed,
   validated_from,
   validated_of,
-  current,
-  Marks,
-  Notes,
 }
-use Rattle.host_receive.proofs.validate.Alike.{Alike, verdict-alike, done-free}
-use Rattle.host_receive.proofs.validate.Overlay.{
-  Overlaid,
-  overlaid-start,
-  overlaid-current,
-  overlaid-turn,
-  apart-turn,
-}
+use Rattle.host_receive.specs.Keeping.{Alike}
+use Rattle.host_receive.proofs.validate.Alike.{verdict-alike, done-free}
 
 -- ---- a frame too long to be read
 
@@ -139,37 +135,40 @@ standing lowest closed table messages bytes completed = record {
   completed = completed;
 }
 
-pub record Walking (w kept f : List ℕ) (size lowest closed changed messages bytes completed at : ℕ) : Type 0 where
+-- `stands` says that a table is as the messages so far leave it
+pub record Walking (w f : List ℕ) (size : ℕ) (stands : List Open → Type 0)
+    (lowest closed messages bytes completed at : ℕ) : Type 0 where
   pub table : List Open
-  pub overlaid : Overlaid w kept changed table
+  pub stood : stands table
   pub turns : ℕ
   pub enough : length f < at + turns
   pub is : validated_of f (transactions_of (pair_of w)) size
       ≡ validated_from turns f size at (standing lowest closed table messages bytes completed)
 
-pub walking_start : (w kept f : List ℕ) (size : ℕ) → length f ≤ frame_most
-    → Walking w kept f size (pair_of w).lowest.0 (pair_of w).closed 0 0 0 0 10
-walking_start w kept f size h =
+pub walking_start : (w f : List ℕ) (size : ℕ) (stands : List Open → Type 0) → stands (pair_of w).table
+    → length f ≤ frame_most
+    → Walking w f size stands (pair_of w).lowest.0 (pair_of w).closed 0 0 0 10
+walking_start w f size stands stood h =
     record {
       table = (pair_of w).table;
-      overlaid = overlaid-start w kept;
+      stood = stood;
       turns = length f;
       enough = omega arith;
       is = validated-short f (transactions_of (pair_of w)) size h;
     }
 
-module _ {w kept f : List ℕ} {size lowest closed changed messages bytes completed at : ℕ}
-    (g : Walking w kept f size lowest closed changed messages bytes completed at) where
+module _ {w f : List ℕ} {size : ℕ} {stands : List Open → Type 0} {lowest closed messages bytes completed at : ℕ}
+    (g : Walking w f size stands lowest closed messages bytes completed at) where
   abbrev now-at : Progress
   now-at = standing lowest closed g.table messages bytes completed
 
-  pub walking-past : found_at f at ≡ PastEnd → refused_at 5 messages ≡ validated_of f (transactions_of (pair_of w)) size
+  pub walking-past : found_at f at ≡ None → refused_at 5 messages ≡ validated_of f (transactions_of (pair_of w)) size
   walking-past e = sym (g.is ∙ validated-past f size at now-at g.turns (is-past f at e))
 
   -- a message was found, and judged as code does it
-  module _ {h : MessageHeader} {len : ℕ} {more : Bool} {next : ℕ} {o : Open} {v : Verdict}
-      (x : IsWhole f at h len more next) (there : mark changed (h.trans.0 % 32) ≡ true → length kept ≡ 67)
-      (o_is : o ≡ current w kept changed (h.trans.0 % 32)) (v-is : v ≡ verdict_of lowest closed o h len size) where
+  module _ {h : MessageHeader} {len : ℕ} {more : Bool} {next : ℕ} (x : IsWhole f at h len more next) {o : Open}
+      (shown : (table : List Open) → stands table → Alike (get_or table (h.trans.0 % 32) free) o) {v : Verdict}
+      (v-is : v ≡ verdict_of lowest closed o h len size) where
     abbrev s : ℕ
     s = h.trans.0 % 32
 
@@ -183,7 +182,7 @@ module _ {w kept f : List ℕ} {size lowest closed changed messages bytes comple
     one-turn = g.is ∙ ap (λ (k : ℕ). validated_from k f size at now-at) left.1
 
     alike : Alike defined o
-    alike = rw o_is (overlaid-current g.overlaid s (omega arith) there)
+    alike = shown g.table g.stood
 
     same : ((verdict_of lowest closed defined h len size).refusal ≡ (verdict_of lowest closed o h len size).refusal)
         × ((verdict_of lowest closed defined h len size).refusal ≡ 0
@@ -225,13 +224,16 @@ module _ {w kept f : List ℕ} {size lowest closed changed messages bytes comple
           ∙ sym (one-turn
           ∙ validated-last f size at now-at left.0 x.inside-frame (sym refusal_is ∙ ok) (sym x.more-is ∙ z))
 
-      walked : (kept' : List ℕ) (r : ℕ) → more ≡ true → Overlaid w kept' r (set g.table s v.entry)
-          → Walking w kept' f size v.lowest.0 v.closed r (messages + 1) (bytes + len)
-          (completed + cond v.done 1 0) next
-      walked kept' r z overlaid =
+      pub walking_on : (stands' : List Open → Type 0) → more ≡ true
+          → ((table : List Open) → stands table → Alike (get_or table s free) o → (v.done ≡ true → v.entry ≡ free)
+          → stands' (set table s v.entry))
+          → Walking w f size stands' v.lowest.0 v.closed (messages + 1) (bytes + len) (completed + cond v.done 1 0) next
+      walking_on stands' z moves =
           record {
             table = set g.table s v.entry;
-            overlaid = overlaid;
+            stood = moves g.table g.stood alike
+                (λ d. ap (λ (v : Verdict). v.entry) v-is
+                ∙ done-free lowest closed h len size o (sym (ap (λ (v : Verdict). v.done) v-is) ∙ d));
             turns = left.0;
             enough = omega (arith, g.enough, x.next-beyond, left.1);
             is =
@@ -241,19 +243,41 @@ module _ {w kept f : List ℕ} {size lowest closed changed messages bytes comple
                 ∙ rw (← on-is, ← x.next-is);
           }
 
-      -- its entry is kept
-      pub walking_on : (kept' : List ℕ) (r : ℕ) → more ≡ true → length kept' ≡ length kept
-          → Notes kept changed s v kept' r
-          → Walking w kept' f size v.lowest.0 v.closed r (messages + 1) (bytes + len)
-          (completed + cond v.done 1 0) next
-      walking_on kept' r z long n =
-          walked kept' r z (overlaid-turn g.overlaid s (omega arith) o v o_is kept' r long n)
+-- ---- what code answers
 
-      -- nothing is kept
-      pub walking-apart : (r : ℕ) → more ≡ true → length kept ≢ 67 → Marks changed s o v.done r
-          → Walking w kept f size v.lowest.0 v.closed r (messages + 1) (bytes + len)
-          (completed + cond v.done 1 0) next
-      walking-apart r z none m =
-          walked kept r z (apart-turn g.overlaid s (omega arith) o v o_is r none
-          (λ d. ap (λ (v : Verdict). v.entry) v-is
-          ∙ done-free lowest closed h len size o (sym (ap (λ (v : Verdict). v.done) v-is) ∙ d)) m)
+-- a verdict whose error is given a place
+pub ok-kept : {T E D : Type 0} (j : Result T E) {r : Result T D} (P : E → D → Type 0) {x : T}
+    → MatchResult j (λ y. r ≡ Ok y) (λ e. IsErrAnd r (P e)) → r ≡ Ok x → j ≡ Ok x
+ok-kept (Ok y) P h q = let z = sym h ∙ q in cc
+ok-kept (Err e) {r} P h q =
+    let p = err_from_is_err_and r h in
+    let z = sym p.1 ∙ q in
+    absurd cc
+
+pub err-kept : {T E D : Type 0} (j : Result T E) {r : Result T D} (P : E → D → Type 0) {x : D}
+    → MatchResult j (λ y. r ≡ Ok y) (λ e. IsErrAnd r (P e)) → r ≡ Err x → (e : E) × (j ≡ Err e) × P e x
+err-kept (Ok y) P h q = let z = sym h ∙ q in absurd cc
+err-kept (Err e) {r} P {x} h q =
+    let p = err_from_is_err_and r h in
+    let z = sym p.1 ∙ q in
+    let y : p.0 ≡ x = cc in
+    (e, refl, subst (P e) y p.2)
+
+-- the refusal that stops the walk
+pub told-as : {V : Validation} (o : Option Refused) (x r : Refused) → o ≡ Some x → o ≡ Some r
+    → refused_at (number x.reason) x.place ≡ V → refused_at (number r.reason) r.place ≡ V
+told-as o x r p q e =
+    let z : x ≡ r = cc in
+    rw z at e
+
+pub byte-is : (b : Bool) → bool_byte b ≡ cond b 1 0
+byte-is true = refl
+byte-is false = refl
+
+pub not_more : (b : Bool) → not b ≡ true → b ≡ false
+not_more false e = refl
+not_more true e = sym e
+
+pub yet-more : (b : Bool) → not b ≡ false → b ≡ true
+yet-more true e = refl
+yet-more false e = sym e

@@ -17,8 +17,7 @@ use Rattle.hexadecimal.specs.Fields.{unhex, numbers_from, total, line_length, re
 use Rattle.hexadecimal.proofs.fields.BothWays.{length-lines, read-lines}
 use Rattle.host_stored.specs.Form.{open_widths, number_in, open_in, open_fine, opens_fine, empty_table, table_from}
 use Rattle.host_stored.proofs.Opens.{fine-line}
-use Rattle.host_store.specs.declared.restore.Line.{Line}
-use Rattle.host_store.specs.Steps.{bad_line, line_of, bad_lines, lines_from, table_of}
+use Rattle.host_store.specs.Steps.{Line, bad_line, line_of, bad_lines, lines_from, table_of}
 
 -- ---- the numbers of a line
 

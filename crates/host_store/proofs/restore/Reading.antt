@@ -91,6 +91,9 @@ taken_start text at bytes = record {
   is = rw sub-zero (sym (before-nil (unhex (length bytes) (drop at text))));
 }
 
+pub taken-begun : (text : List ℕ) (at n : ℕ) (bytes : List ℕ) → length bytes ≡ n → Taken text at n bytes at 0
+taken-begun text at n bytes e = rw (← e) (taken_start text at bytes)
+
 module _ {text : List ℕ} {at n : ℕ} {bytes : List ℕ} {from i : ℕ} (t : Taken text at n bytes from i) where
   -- one pair of characters
   pair : i < n → unhex (n - i) (drop from text)

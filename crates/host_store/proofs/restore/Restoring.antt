@@ -30,8 +30,7 @@ use Rattle.host_stored.specs.Form.{
   judged,
   read_as,
 }
-use Rattle.host_store.specs.declared.restore.Lines.{Lines}
-use Rattle.host_store.specs.Steps.{bad_lines, table_of}
+use Rattle.host_store.specs.Steps.{Lines, bad_lines, table_of}
 
 pub head-total : 23 ≡ total head_widths
 unfolding total

@@ -18,8 +18,8 @@ use Rattle.seq.specs.declared.TransNo.{TransNo}
 use Rattle.host.specs.declared.Pair.{Pair}
 use Rattle.hexadecimal.specs.Fields.{hex, laid, line_of, lines_of}
 use Rattle.hexadecimal.proofs.fields.BothWays.{length-hex}
-use Rattle.host_stored.specs.declared.Stored.{Stored}
 use Rattle.host_stored.specs.Form.{
+  Stored,
   head_widths,
   open_widths,
   first_line,

@@ -1,11 +1,13 @@
--- The loops over the entries of a pair: reading all of them from words, and storing all of them there. Assumes nothing.
-use mathlib.Core.Path.{◌≡◌, refl, sym, ◌∙◌, ap}
+-- The entries of a pair: reading all of them from words, and storing all of them there. Assumes nothing.
+use mathlib.Core.Path.{◌≡◌, refl, sym, ◌∙◌, ap, subst}
 use mathlib.Core.List.{List}
-use Prim.Native.Nat.{ℕ, ◌+◌, ◌%◌, ◌≤◌, ◌<◌}
+use Prim.Native.Nat.{ℕ, zero, suc, ◌+◌, ◌%◌, ◌≤◌, ◌<◌}
 use native.Mathlib.Decide.{dec_le}
 use native.Mathlib.Omega.{arith}
-use lib.ListN.{length, get_or, set, length-set}
+use lib.ListN.{length, get_or, set}
 use lib.Seq.{get_or-set_same, get_or-set_other}
+use Rattle.std.specs.Fn.{Called, Mut}
+use Rattle.std.specs.Array.{IsFromFnResultFrom, IsFromFnResult}
 use Rattle.host.specs.declared.Open.{Open}
 use Rattle.host.specs.Terms.{free}
 use Rattle.host_words.specs.declared.Head.{Head}
@@ -13,31 +15,43 @@ use Rattle.host_words.specs.Words.{entry_of, pair_of, head_part, joined}
 use Rattle.host_words.proofs.Words.{table-all, length-table, entry_at}
 use Rattle.host_words.specs.Updating.{HoldsEntry}
 
-pub record Filling (w : List ℕ) (table : List Open) (i : ℕ) : Type 0 where
-  pub most : i ≤ 32
-  pub long : length table ≡ 32
-  pub filled : (k : ℕ) → k < i → get_or table k free ≡ entry_of w k
+-- ---- reading
 
-pub filling-turn : {w : List ℕ} {table : List Open} {i : ℕ} → Filling w table i → (o : Open) → i < 32
-    → o ≡ entry_of w (i % 32)
-    → Filling w (set table i o) (i + 1)
-filling-turn {w} {table} {i} g o h e =
-    record {
-      most = omega (arith, h);
-      long = length-set table i o ∙ g.long;
-      filled = λ k lt. go k (dec_le i k) lt;
-    }
+-- where no call changes the closure, an array made by calls holds the value of each call at its index
+made_at : {F A : Type 0} (g : Mut F (ℕ × Unit {0}) A) (d : A) (value : ℕ → A) (f : F) (n : ℕ)
+    → ((i : ℕ) (y : A) (q : F) → i < n → Called g f (i, tt) y q → (y ≡ value i) × (q ≡ f))
+    → (ys : List A) (m i : ℕ) → i + m ≤ n → IsFromFnResultFrom g f ys i m → (k : ℕ) → i ≤ k → k < i + m
+    → get_or ys k d ≡ value k
+made_at g d value f n gives ys zero i room r k low high = absurd (omega arith)
+made_at {F} g d value f n gives ys (suc m) i room r k low high =
+    go (dec_le k i)
+    (λ on. made_at g d value f n gives ys m (i + 1) (omega arith)
+    (subst (λ (p : F). IsFromFnResultFrom g p ys (i + 1) m) one.1 r.4) k on
+    (omega arith))
   where
-    go : (k : ℕ) → Dec (i ≤ k) → k < i + 1 → get_or (set table i o) k free ≡ entry_of w k
-    go k (yes m) lt =
-        let same : k ≡ i = omega (arith, m, lt) in
-        let here : i % 32 ≡ i = omega (arith, h) in
-        rw same (get_or-set_same table i o free (omega (arith, h, g.long)) ∙ rw here at e)
-    go k (no m) lt =
-        get_or-set_other table i k o free (λ q. m (omega (arith, q))) ∙ g.filled k (omega (arith, m))
+    one : (r.1 ≡ value i) × (r.0 ≡ f)
+    one = gives i r.1 r.0 (omega arith) r.3
 
-pub filling-done : {w : List ℕ} {table : List Open} {i : ℕ} → Filling w table i → 32 ≤ i → table ≡ (pair_of w).table
-filling-done {w} {table} {i} g h = table-all w table g.long (λ j lt. g.filled j (omega (arith, lt, h)))
+    go : Dec (k ≤ i) → (i + 1 ≤ k → get_or ys k d ≡ value k) → get_or ys k d ≡ value k
+    go (yes here) later =
+        let e : k ≡ i = omega arith in
+        rw e (r.2.1 d ∙ one.0)
+    go (no on) later = later (omega arith)
+
+-- so the table of the words is made entry by entry
+pub table-made : {F : Type 0} (g : Mut F (ℕ × Unit {0}) Open) (w : List ℕ) (f : F)
+    → ((i : ℕ) (y : Open) (q : F) → i < 32 → Called g f (i, tt) y q → (y ≡ entry_of w (i % 32)) × (q ≡ f))
+    → (ys : List Open) → IsFromFnResult g f ys 32 → ys ≡ (pair_of w).table
+table-made g w f gives ys made =
+    table-all w ys made.long
+    (λ j lt.
+    let here : j % 32 ≡ j = omega (arith, lt) in
+    let same : get_or ys j free ≡ entry_of w (j % 32) =
+    made_at g free (λ i. entry_of w (i % 32)) f 32 gives ys 32 0 (omega arith) made.each j (omega arith)
+    (omega (arith, lt)) in
+    rw here at same)
+
+-- ---- storing
 
 -- the first i entries of the table are in the words
 pub record Storing (w₀ w : List ℕ) (table : List Open) (i : ℕ) : Type 0 where

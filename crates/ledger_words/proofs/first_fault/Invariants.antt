@@ -1,12 +1,8 @@
 -- `ledger_words::first_fault`: the loop on a copy.
 -- Assumes nothing.
-use Rattle.std.proofs.Common.{◌≡◌, ◌-◌, length}
-use Rattle.ledger_words.specs.LedgerWords.{ledger_words, accounts_in, ledger_in}
+use Rattle.ledger_words.specs.LedgerWords.{accounts_in, ledger_in}
 use Rattle.ledger_words.proofs.Loops.{Entering}
 use Rattle.ledger_words.proofs.first_fault.Given as goal
 
-abbrev pub invariant-loop-k : goal.invariant-loop-k
-invariant-loop-k l = Entering (ledger_in l.words) l.block l.n (accounts_in l.copy l.sum) l.k × (length l.copy ≡ ledger_words)
-
-abbrev pub decreases-loop-k : goal.decreases-loop-k
-decreases-loop-k l = l.n - l.k
+abbrev pub invariant-loop-bytes : goal.invariant-loop-bytes
+invariant-loop-bytes l = Entering (ledger_in l.words) l.block (accounts_in l.copy l.sum) l.bytes-index

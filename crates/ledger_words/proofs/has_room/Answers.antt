@@ -1,46 +1,45 @@
 -- `ledger_words::has_room`: the loop that looks for room, and the two comparisons behind it.
 -- Assumes nothing.
-use Rattle.std.proofs.Common.{◌%◌, sym, mod-lt, arith, lit<}
+use Rattle.std.proofs.Common.{◌%◌, sym, ◌∙◌, mod-lt, arith, lit<, le-ltb}
 use Rattle.ledger.specs.Ledger.{subscribers}
 use Rattle.ledger_words.specs.LedgerWords.{ledger_in}
 use Rattle.ledger_words.proofs.Holding.{held-total, held-sum}
 use Rattle.ledger_words.proofs.Loops.{too_many, sum-high, look-start, look-turn, look-unknown, look-done}
+use Rattle.ledger_words.proofs.has_room.Goals.{
+  then-block-gt-READINGS_MOST-via-then-block-gt-READINGS_MOST,
+  then-block-gt-READINGS_MOST-via-else-block-gt-READINGS_MOST+then-words-ge-HALF,
+}
 use Rattle.ledger_words.proofs.has_room.Goals as goal
 
-pub returns-then-n-gt-READINGS_MOST : goal.returns-then-n-gt-READINGS_MOST
-returns-then-n-gt-READINGS_MOST c =
-    let a = c.args in
-    sym (too_many (ledger_in a.words.now) a.block.now (omega arith))
+pub returns-then-block-gt-READINGS_MOST : goal.returns-then-block-gt-READINGS_MOST
+returns-then-block-gt-READINGS_MOST c =
+    let l = ledger_in c.args.words.now in
+    let block = c.args.block.now in
+    sym
+    (elim c.then-block-gt-READINGS_MOST.branch [
+      | then-block-gt-READINGS_MOST-via-then-block-gt-READINGS_MOST w ↦ too_many l block w.if-block-gt-READINGS_MOST.true
+      | then-block-gt-READINGS_MOST-via-else-block-gt-READINGS_MOST+then-words-ge-HALF w ↦
+          sum-high l block w.if-block-gt-READINGS_MOST.false
+          (omega (arith, held-sum c.args.words.now, w.if-words-ge-HALF.true))
+    ])
 
-pub bounds-words-2048 : goal.bounds-words-2048
-bounds-words-2048 c = omega (arith, c.requires)
+pub loop-bytes-init : goal.loop-bytes-init
+loop-bytes-init c = look-start _ _
 
-pub returns-then-words-ge-HALF : goal.returns-then-words-ge-HALF
-returns-then-words-ge-HALF c =
-    let a = c.args in
-    sym (sum-high (ledger_in a.words.now) a.block.now (omega arith) (omega (arith, held-sum a.words.now)))
+pub loop-bytes-preserved : goal.loop-bytes-preserved
+loop-bytes-preserved c =
+    let s = c.of-subscriber.result.subscriber in
+    look-turn c.loop-bytes.invariant _ _ _ c.loop-bytes-test.true c.of-subscriber.ensures
+    (sym (held-total c.args.words.now (s % subscribers) (mod-lt s (lit< tt))))
 
-pub loop-k-init : goal.loop-k-init
-loop-k-init c = look-start _ _
+pub returns-then-any-lt-SUBSCRIBERS : goal.returns-then-any-lt-SUBSCRIBERS
+returns-then-any-lt-SUBSCRIBERS c =
+    look-done _ _ (omega arith) (omega (arith, held-sum c.args.words.now)) c.loop-bytes.invariant c.loop-bytes-test.false
+    c.if-any-lt-SUBSCRIBERS.true
 
-pub subscriber_at-subscriber-requires : goal.subscriber_at-subscriber-requires
-subscriber_at-subscriber-requires c = omega (arith, c.loop-k.invariant.readings)
-
-pub bounds-words-subscriber : goal.bounds-words-subscriber
-bounds-words-subscriber c = omega (arith, c.requires)
-
-pub loop-k-preserved : goal.loop-k-preserved
-loop-k-preserved c =
-    look-turn c.loop-k.invariant c.subscriber_at-subscriber.result _ c.loop-k-test.true
-    c.subscriber_at-subscriber.ensures
-    (sym (held-total c.args.words.now (c.subscriber_at-subscriber.result % subscribers) (mod-lt c.subscriber_at-subscriber.result (lit< tt))))
-
-pub returns-then-any-ge-SUBSCRIBERS : goal.returns-then-any-ge-SUBSCRIBERS
-returns-then-any-ge-SUBSCRIBERS c =
-    look-unknown _ _ (omega arith) (omega (arith, held-sum c.args.words.now))
-    c.loop-k.invariant c.loop-k-test.false c.if-any-ge-SUBSCRIBERS.true
-
-pub returns : goal.returns
-returns c =
-    look-done _ _ (omega arith) (omega (arith, held-sum c.args.words.now))
-    c.loop-k.invariant c.loop-k-test.false c.if-any-ge-SUBSCRIBERS.false
+pub returns-else-any-lt-SUBSCRIBERS : goal.returns-else-any-lt-SUBSCRIBERS
+returns-else-any-lt-SUBSCRIBERS c =
+    let h = c.if-any-lt-SUBSCRIBERS.false in
+    le-ltb c.loop-bytes.any subscribers h
+    ∙ look-unknown _ _ (omega arith) (omega (arith, held-sum c.args.words.now)) c.loop-bytes.invariant
+    c.loop-bytes-test.false h

@@ -1,40 +1,29 @@
--- `ledger_words::take`: words of another number, a refused block, and one that is entered.
+-- `ledger_words::take`: a size that is no multiple of 8, a refused block, and one that is entered.
 -- Assumes nothing.
-use Rattle.std.proofs.Common.{sym, refl, ap, ◌∙◌}
-use Rattle.ledger.specs.Ledger.{Outcome}
-use Rattle.ledger.proofs.Steps.{accepted-block, refused-block}
-use Rattle.ledger_words.specs.LedgerWords.{ledger_in}
+use Rattle.std.proofs.Common.{sym, ◌∙◌, arith}
+use borrow.Author.Tests.{eqb-true, eqb-false}
+use Rattle.std.proofs.lemmas.Result.{err_from_is_err_and}
+use Rattle.refusal.proofs.Numbers.{number-positive}
+use Rattle.ledger_words.proofs.Taking.{refuses-size, refuses-reading, enters}
 use Rattle.ledger_words.proofs.take.Goals as goal
 
-pub returns-then-words-ne-LEDGER_WORDS : goal.returns-then-words-ne-LEDGER_WORDS
-returns-then-words-ne-LEDGER_WORDS c =
-    ((λ l. absurd (c.if-words-ne-LEDGER_WORDS.true l), λ n. (refl, refl)), λ q. refl)
+pub returns-then-not-is_empty : goal.returns-then-not-is_empty
+returns-then-not-is_empty c =
+    let lent = c.in-Some.ensures.cases in
+    refuses-size _ _ _ lent.long
+    (λ z. eqb-false _ _ (sym c.if-not-is_empty.ensures) (c.as_chunks.ensures.back_len ∙ z)) lent.same
 
-pub returns-then-refusal-ne0 : goal.returns-then-refusal-ne0
-returns-then-refusal-ne0 c =
-    let a = c.args in (
-      (
-        λ l. (sym (refused-block (ledger_in a.words.now) a.block.now (λ z. c.if-refusal-ne0.true (c.judge-refusal.ensures ∙ z))), c.judge-refusal.ensures),
-        λ n. absurd (n c.if-words-ne-LEDGER_WORDS.false),
-      ),
-      λ q. refl,
-    )
-
-pub enter_all-requires : goal.enter_all-requires
-enter_all-requires c =
-    let a = c.args in
-    let z = sym c.judge-refusal.ensures ∙ c.if-refusal-ne0.false in
-    let t = accepted-block (ledger_in a.words.now) a.block.now z in
-    (c.if-words-ne-LEDGER_WORDS.false, sym (ap (λ (o : Outcome). o.refusal) t) ∙ z)
+pub returns-in_err-check_block : goal.returns-in_err-check_block
+returns-in_err-check_block c =
+    let lent = c.in-Some.ensures.cases in
+    let whole = sym c.as_chunks.ensures.back_len ∙ eqb-true _ _ (sym c.if-not-is_empty.ensures) in
+    let p = err_from_is_err_and c.from_residual.result c.from_residual.ensures.1 in
+    rw (p.1, p.2)
+    (refuses-reading _ _ _ lent.long _ lent.same _ c.as_chunks.ensures.front whole _ c.in_err-check_block.ensures
+    (λ z. omega (arith, number-positive c.in_err-check_block.field-0.0, z)) lent.same)
 
 pub returns : goal.returns
 returns c =
-    let a = c.args in
-    let z = sym c.judge-refusal.ensures ∙ c.if-refusal-ne0.false in
-    let t = accepted-block (ledger_in a.words.now) a.block.now z in (
-      (
-        λ l. (c.enter_all.ensures ∙ sym (ap (λ (o : Outcome). o.ledger) t), sym z),
-        λ n. absurd (n c.if-words-ne-LEDGER_WORDS.false),
-      ),
-      λ q. absurd (q refl),
-    )
+    let lent = c.in-Some.ensures.cases in
+    let whole = sym c.as_chunks.ensures.back_len ∙ eqb-true _ _ (sym c.if-not-is_empty.ensures) in
+    enters _ _ _ lent.long _ lent.same _ c.as_chunks.ensures.front whole c.in_ok-check_block.ensures c.enter_all.ensures

@@ -1,21 +1,29 @@
 -- `logwhisker::seal_frame`: sealing in place, on words whose number their type gives.
 -- Assumes nothing.
-use mathlib.Core.Path.{◌≡◌, ◌∙◌, ap}
+use mathlib.Core.Path.{◌≡◌, ◌∙◌}
 use native.Mathlib.Omega.{arith}
 use lib.ListN.{length}
 use borrow.Author.Tests.{eq-eqb}
-use Rattle.card_build.specs.declared.number.SealedFrame.{SealedFrame}
+use Rattle.std.proofs.lemmas.Result.{IfOk-weaker}
+use Rattle.seq.specs.declared.FrameNo.{FrameNo}
+use Rattle.card.specs.Card.{seal_frame}
+use Rattle.card_words.specs.Words.{card_of}
 use Rattle.card_build.specs.Numbering.{sealed_in}
 use Rattle.logwhisker.proofs.seal_frame.Goals as goal
 
-pub returns-clause-refusal_value : goal.returns-clause-refusal_value
+pub returns-clause-refused : goal.returns-clause-refused
 unfolding sealed_in
-returns-clause-refusal_value c =
+returns-clause-refused c =
     let e : length c.args.words.now ≡ 85 = omega arith in
-    ap (λ (s : SealedFrame). s.refusal) c.seal_frame.ensures.value ∙ rw (eq-eqb _ 85 e)
+    c.seal_frame.ensures.refused ∙ rw (eq-eqb _ 85 e)
 
-pub returns-clause-number_value : goal.returns-clause-number_value
+pub returns-clause-sealed : goal.returns-clause-sealed
 unfolding sealed_in
-returns-clause-number_value c =
-    let e : length c.args.words.now ≡ 85 = omega arith in
-    ap (λ (s : SealedFrame). s.number) c.seal_frame.ensures.value ∙ rw (eq-eqb _ 85 e)
+returns-clause-sealed c =
+    let a = c.args in
+    let e : length a.words.now ≡ 85 = omega arith in
+    let n : (sealed_in a.words.now a.slots.now).number ≡ (seal_frame (card_of a.words.now) a.slots.now).number
+    = rw (eq-eqb _ 85 e) in
+    IfOk-weaker _ (λ (x : FrameNo). x ≡ (sealed_in a.words.now a.slots.now).number)
+    (λ (x : FrameNo). x ≡ (seal_frame (card_of a.words.now) a.slots.now).number) (λ x h. h ∙ n)
+    c.seal_frame.ensures.sealed

@@ -12,5 +12,5 @@ returns c =
     record {
       memory_after = refl;
       opens_replay =
-          opens _ (ap (λ (o : PlainOpened). pair_of_plain o.pair) c.open_pair-opened.ensures ∙ opened-fresh);
+          opens _ (ap (λ (o : PlainOpened). pair_of_plain o.pair) c.open_pair.ensures ∙ opened-fresh);
     }

@@ -1,7 +1,10 @@
--- What the words of a place come to when they are written, and each outcome of feeding and now_closed, for whatever host
+-- What the words of a place come to when they are written, and each outcome of feeding and closing, for whatever host
 -- answers the lines: the proofs of the calls over a host cite these.
 -- Assumes nothing.
 use Rattle.std.proofs.Common.{◌≡◌, ℕ, ◌+◌, ◌%◌, ◌^◌, ◌<◌, ◌≤◌, Bool, true, false, cond, not, ltb, leb, List, length, get_or, replicate, sym, refl, ap, ◌∙◌, true≢false, mod-lt, mod-eq_of_lt, arith, ltb-false, ltb-true, leb-false, leb-true}
+use Rattle.std.specs.Prelude.{Option, Some, None, Result, Ok, Err}
+use Rattle.refusal.specs.declared.Reason.{Reason}
+use Rattle.refusal.specs.declared.Reason.TheVariants.{ReplayClosed}
 use borrow.Author.Tests.{not-false}
 use Rattle.hexadecimal.specs.declared.line.Line.{Line}
 use Rattle.hexadecimal.specs.declared.line.Taken.{Taken}
@@ -13,7 +16,7 @@ use Rattle.host.specs.declared.Answer.{Answer}
 use Rattle.host.specs.Host.{Received, fresh}
 use Rattle.replay_text.specs.declared.line.Totals.{Totals}
 use Rattle.replay_text.specs.Report.{line_refusal, answered_line, totalled}
-use Rattle.replay_text.specs.declared.Reply.TheVariants.{Answered, Nothing, Refused}
+use Rattle.replay_text.specs.Reply.{Reply}
 use Rattle.replay_text.specs.Text.{lines_most, memory_at_start, no_totals}
 use Rattle.replay_text.specs.Feeding.{
   nothing_held,
@@ -54,7 +57,9 @@ use Rattle.replay_text.specs.Place.{
   state_of,
   Answers,
   fed_of,
+  fed_with,
   closed_of,
+  closed_with,
   noted,
   taking_of,
   place_taken,
@@ -117,13 +122,13 @@ module _ (place : List ℕ) (pair : Pair) (frame memory : List ℕ) (l : lines_i
 -- ---- feeding
 
 abbrev line_step : Replaying → ℕ → Step Replaying
-line_step s n = record { state = line_ended s; reply = Answered (line_answer s); taken = n }
+line_step s n = record { state = line_ended s; reply = Ok (Some (line_answer s)); taken = n }
 
 module _ (place : List ℕ) (pair : Pair) (frame memory fragment : List ℕ) where
   abbrev at : Replaying
   at = state_of place pair frame memory
 
-  abbrev pub Feeds : Fed → List ℕ → Pair → List ℕ → List ℕ → Type 0
+  abbrev pub Feeds : Result Fed Reason → List ℕ → Pair → List ℕ → List ℕ → Type 0
   Feeds fed place' pair' frame' memory' =
       (fed ≡ fed_of (feed at fragment)) × (state_of place' pair' frame' memory' ≡ (feed at fragment).state)
 
@@ -132,22 +137,20 @@ module _ (place : List ℕ) (pair : Pair) (frame memory fragment : List ℕ) whe
       → Feeds (fed_of step) place' pair' frame' memory'
   told step e place' pair' frame' memory' h = rw e (refl, h)
 
-  module _ (room : 9000 ≤ length frame) (t : Taking) (place' frame' : List ℕ)
+  module _ (room : 9000 ≤ length frame) (t : Result Taking Reason) (place' frame' : List ℕ)
       (t-is : t ≡ taking_of place frame fragment) (place_is : place' ≡ place_taken place frame fragment)
       (frame_is : frame' ≡ frame_taken place frame fragment) where
     -- a line ended, and the replay was open and not full
-    pub record Ends : Type 0 where
+    pub record Ends (taken : ℕ) : Type 0 where
       pub lines_left : lines_in place' < 1000000
-      pub step_is : feed at fragment ≡ line_step (state_of place' pair frame' memory) t.taken
+      pub step_is : feed at fragment ≡ line_step (state_of place' pair frame' memory) taken
 
-    when-closed : closed_in place ≡ true
-        → (t ≡ record { reply = Refused 17; taken = 0; ended = false }) × (place' ≡ place) × (frame' ≡ frame)
+    when-closed : closed_in place ≡ true → (t ≡ Err ReplayClosed) × (place' ≡ place) × (frame' ≡ frame)
     unfolding taking_of place_taken frame_taken
     when-closed e = (t-is ∙ rw e, place_is ∙ rw e, frame_is ∙ rw e)
 
     when-full : closed_in place ≡ false → leb lines_most (lines_in place) ≡ true
-        → (t ≡ record { reply = Nothing; taken = length fragment; ended = false }) × (place' ≡ place)
-        × (frame' ≡ frame)
+        → (t ≡ Ok (record { taken = length fragment; ended = false })) × (place' ≡ place) × (frame' ≡ frame)
     unfolding taking_of place_taken frame_taken
     when-full o k = (t-is ∙ rw (k, o), place_is ∙ rw (k, o), frame_is ∙ rw (k, o))
 
@@ -155,7 +158,7 @@ module _ (place : List ℕ) (pair : Pair) (frame memory fragment : List ℕ) whe
       abbrev got : Taken
       got = taken_from (line_of place) frame 0 fragment
 
-      t_open : t ≡ record { reply = Nothing; taken = got.at; ended = got.ended }
+      t_open : t ≡ Ok (record { taken = got.at; ended = got.ended })
       unfolding taking_of
       t_open = t-is ∙ rw (k, o)
 
@@ -181,84 +184,132 @@ module _ (place : List ℕ) (pair : Pair) (frame memory fragment : List ℕ) whe
             all_held (up_to_newline fragment) (record { line = line_of place; frame = frame }) room,
           )
 
-      part-open : t.ended ≡ false → Feeds (record { reply = t.reply; taken = t.taken }) place' pair frame' memory
+      part-open : (x : Taking) → t ≡ Ok x → x.ended ≡ false
+          → Feeds (Ok (record { answer = None; taken = x.taken })) place' pair frame' memory
       unfolding taken_from
-      part-open n =
-          let none : has_newline fragment ≡ false = sym (ap (λ (x : Taking). x.ended) t_open) ∙ n in
+      part-open x q n =
+          let x-is : x ≡ record { taken = got.at; ended = got.ended } = cc t_open in
+          let none : has_newline fragment ≡ false = sym (ap (λ (y : Taking). y.ended) x-is) ∙ n in
           let all : up_to_newline fragment ≡ fragment = all-of-it fragment none in
           let all-taken : 0 + length (up_to_newline fragment) + cond (has_newline fragment) 1 0 ≡ length fragment =
           rw (none, all) (omega arith) in
-          let is : t ≡ record { reply = Nothing; taken = length fragment; ended = false } =
-          t_open ∙ rw (all-taken, none) in
-          rw is
-          (told (record { state = with_characters fragment at; reply = Nothing; taken = length fragment })
+          let count : x.taken ≡ length fragment = ap (λ (y : Taking). y.taken) x-is ∙ all-taken in
+          rw count
+          (told (record { state = with_characters fragment at; reply = Ok None; taken = length fragment })
           (feed-part at fragment o left none) place' pair frame' memory
           (reading-is ∙ ap (λ (cs : List ℕ). with_characters cs at) all))
 
-      line-open : t.ended ≡ true → Ends
+      line-open : (x : Taking) → t ≡ Ok x → x.ended ≡ true → Ends x.taken
       unfolding taken_from noted
-      line-open n =
-          let some-there : has_newline fragment ≡ true = sym (ap (λ (x : Taking). x.ended) t_open) ∙ n in
-          let taken_is : t.taken ≡ length (up_to_newline fragment) + 1 =
-          ap (λ (x : Taking). x.taken) t_open ∙ rw some-there (omega arith) in
+      line-open x q n =
+          let x-is : x ≡ record { taken = got.at; ended = got.ended } = cc t_open in
+          let some-there : has_newline fragment ≡ true = sym (ap (λ (y : Taking). y.ended) x-is) ∙ n in
+          let taken_is : x.taken ≡ length (up_to_newline fragment) + 1 =
+          ap (λ (y : Taking). y.taken) x-is ∙ rw some-there (omega arith) in
           record {
             lines_left = rw place-open left;
             step_is =
                 feed-line at fragment o left some-there
-                ∙ ap (λ (x : Replaying). line_step x (length (up_to_newline fragment) + 1)) (sym reading-is)
+                ∙ ap (λ (y : Replaying). line_step y (length (up_to_newline fragment) + 1)) (sym reading-is)
                 ∙ ap (λ (n : ℕ). line_step (state_of place' pair frame' memory) n) (sym taken_is);
           }
 
-    -- no line ended: no host is asked
-    pub fed-part : t.ended ≡ false → Feeds (record { reply = t.reply; taken = t.taken }) place' pair frame' memory
+    -- refused: no host is asked, and what was lent stays as it was
+    pub fed-refused : (reason : Reason) → t ≡ Err reason
+        → Feeds (Err reason) place' pair frame' memory × (place' ≡ place) × (frame' ≡ frame)
     unfolding feed
-    fed-part n = go (closed_in place) refl (leb lines_most (lines_in place)) refl
+    fed-refused reason q = go (closed_in place) refl (leb lines_most (lines_in place)) refl
       where
+        never : (x : Taking) → t ≡ Ok x → ⊥
+        never x e = cc
+
         go : (b : Bool) → closed_in place ≡ b → (l : Bool) → leb lines_most (lines_in place) ≡ l
-            → Feeds (record { reply = t.reply; taken = t.taken }) place' pair frame' memory
+            → Feeds (Err reason) place' pair frame' memory × (place' ≡ place) × (frame' ≡ frame)
         go true e l k =
             let w = when-closed e in
-            rw (w.0, w.1, w.2)
-            (told (record { state = at; reply = Refused 17; taken = 0 }) (rw e) place pair frame memory refl)
+            let r : reason ≡ ReplayClosed = cc in
+            rw (r, w.1, w.2) (
+              told (record { state = at; reply = Err ReplayClosed; taken = 0 }) (rw e) place pair frame memory refl,
+              refl,
+              refl,
+            )
+        go false o true k = absurd (never _ (when-full o k).0)
+        go false o false k = absurd (never _ (t_open o k))
+
+    -- no line ended: no host is asked
+    pub fed-part : (x : Taking) → t ≡ Ok x → x.ended ≡ false
+        → Feeds (Ok (record { answer = None; taken = x.taken })) place' pair frame' memory
+    unfolding feed
+    fed-part x q n = go (closed_in place) refl (leb lines_most (lines_in place)) refl
+      where
+        go : (b : Bool) → closed_in place ≡ b → (l : Bool) → leb lines_most (lines_in place) ≡ l
+            → Feeds (Ok (record { answer = None; taken = x.taken })) place' pair frame' memory
+        go true e l k =
+            let w = when-closed e in
+            let none : ⊥ = cc in
+            absurd none
         go false o true k =
             let w = when-full o k in
-            rw (w.0, w.1, w.2)
-            (told (record { state = at; reply = Nothing; taken = length fragment })
+            let x-is : x ≡ record { taken = length fragment; ended = false } = cc in
+            rw (x-is, w.1, w.2)
+            (told (record { state = at; reply = Ok None; taken = length fragment })
             (feed-over at fragment o (leb-true lines_most (lines_in place) k)) place pair frame memory refl)
-        go false o false k = part-open o k n
+        go false o false k = part-open o k x q n
 
-    pub ends : t.ended ≡ true → Ends
-    ends n = go (closed_in place) refl (leb lines_most (lines_in place)) refl
+    pub ends : (x : Taking) → t ≡ Ok x → x.ended ≡ true → Ends x.taken
+    ends x q n = go (closed_in place) refl (leb lines_most (lines_in place)) refl
       where
-        go : (b : Bool) → closed_in place ≡ b → (l : Bool) → leb lines_most (lines_in place) ≡ l → Ends
+        go : (b : Bool) → closed_in place ≡ b → (l : Bool) → leb lines_most (lines_in place) ≡ l → Ends x.taken
         go true e l k =
-            absurd (true≢false (sym n ∙ ap (λ (x : Taking). x.ended) (when-closed e).0))
+            let w = when-closed e in
+            let none : ⊥ = cc in
+            absurd none
         go false o true k =
-            absurd (true≢false (sym n ∙ ap (λ (x : Taking). x.ended) (when-full o k).0))
-        go false o false k = line-open o k n
+            let w = when-full o k in
+            let x-is : x ≡ record { taken = length fragment; ended = false } = cc in
+            absurd (true≢false (sym n ∙ ap (λ (y : Taking). y.ended) x-is))
+        go false o false k = line-open o k x q n
 
     -- a line ended, and a host answered it
-    pub fed-line : t.ended ≡ true → (answer : Answer) (place'' : List ℕ) (pair' : Pair) (memory' : List ℕ)
+    pub fed-line : (x : Taking) → t ≡ Ok x → x.ended ≡ true
+        → (answer : Answer) (place'' : List ℕ) (pair' : Pair) (memory' : List ℕ)
         → Answers place' pair frame' memory answer pair' memory' → place'' ≡ counted place' answer
-        → Feeds (record { reply = Answered answer; taken = t.taken }) place'' pair' frame' memory'
-    fed-line n answer place'' pair' memory' e p =
-        let k = ends n in
+        → Feeds (Ok (record { answer = Some answer; taken = x.taken })) place'' pair' frame' memory'
+    fed-line x q n answer place'' pair' memory' e p =
+        let k = ends x q n in
         let a = answer-is place' pair frame' memory k.lines_left answer pair' memory' e in
-        let fed : ◌≡◌ {A = Fed} (record { reply = Answered answer; taken = t.taken })
-        (record { reply = Answered (line_answer (state_of place' pair frame' memory)); taken = t.taken }) = rw a in (
+        let fed : ◌≡◌ {A = Result Fed Reason} (Ok (record { answer = Some answer; taken = x.taken }))
+        (Ok (record { answer = Some (line_answer (state_of place' pair frame' memory)); taken = x.taken })) = rw a in (
           fed ∙ sym (ap fed_of k.step_is),
           ap (λ (w : List ℕ). state_of w pair' frame' memory') p
               ∙ ended_is place' pair frame' memory k.lines_left answer pair' memory' e
-              ∙ sym (ap (λ (x : Step Replaying). x.state) k.step_is),
+              ∙ sym (ap (λ (y : Step Replaying). y.state) k.step_is),
         )
 
 -- ---- now_closed
+
+-- What a call answers that has this answer of a last line, and closes the words.
+abbrev pub closing : Option Answer → Result Totals Reason → Result Closed Reason
+closing answer (Ok totals) = Ok (record { answer = answer; totals = totals })
+closing answer (Err reason) = Err reason
+
+-- closing words that are closed leaves them
+pub closing-left : (place : List ℕ) (reason : Reason) → closing_of place ≡ Err reason → place_closed place ≡ place
+unfolding closing_of place_closed
+closing-left place reason h = go (closed_in place) refl
+  where
+    go : (b : Bool) → closed_in place ≡ b → place_closed place ≡ place
+    go true c = rw c
+    go false o =
+        let is-open : closing_of place ≡ Ok (totals_in place) = rw o in
+        let none : ⊥ = cc in
+        absurd none
 
 module _ (place : List ℕ) (pair : Pair) (frame memory : List ℕ) where
   abbrev here : Replaying
   here = state_of place pair frame memory
 
-  abbrev pub Closes : Closed → List ℕ → Pair → List ℕ → Type 0
+  abbrev pub Closes : Result Closed Reason → List ℕ → Pair → List ℕ → Type 0
   Closes closed place' pair' memory' =
       (closed ≡ closed_of (close here)) × (state_of place' pair' frame memory' ≡ (close here).state)
 
@@ -271,7 +322,7 @@ module _ (place : List ℕ) (pair : Pair) (frame memory : List ℕ) where
   shut-is = rw (line_kept (totals_in place) (lines_in place) 1 (line_of place) frame)
 
   pub closed-open : closed_in place ≡ false
-      → ((closing_of place).totals ≡ totals_in place) × (state_of (place_closed place) pair frame memory ≡ now_closed here)
+      → (closing_of place ≡ Ok (totals_in place)) × (state_of (place_closed place) pair frame memory ≡ now_closed here)
   unfolding closing_of place_closed
   closed-open o =
       let shut : place_closed place ≡ place_words (totals_in place) (lines_in place) 1 (line_of place) = rw o in
@@ -282,29 +333,29 @@ module _ (place : List ℕ) (pair : Pair) (frame memory : List ℕ) (room : 9000
   empty-is = empty-held (line_of place) frame room
 
   none_last : closed_in place ≡ false → has_last (state_of place pair frame memory) ≡ false
-      → Closes place pair frame memory (closing_of place) (place_closed place) pair memory
+      → Closes place pair frame memory (closing None (closing_of place)) (place_closed place) pair memory
   unfolding closing_of close
   none_last o h =
-      let c : closing_of place ≡ record { reply = Nothing; totals = totals_in place } = rw o in
+      let c : closing_of place ≡ Ok (totals_in place) = rw o in
       rw c
       (close-told place pair frame memory
-      (record { state = now_closed (state_of place pair frame memory); reply = Nothing; totals = totals_in place })
+      (record { state = now_closed (state_of place pair frame memory); reply = Ok None; totals = totals_in place })
       (rw (h, o)) (place_closed place) pair memory (closed-open place pair frame memory o).1)
 
   bare : last_in place ≡ false
-      → Closes place pair frame memory (closing_of place) (place_closed place) pair memory
+      → Closes place pair frame memory (closing None (closing_of place)) (place_closed place) pair memory
   unfolding last_in closing_of place_closed close has_last
   bare n = go (closed_in place) refl (leb lines_most (lines_in place)) refl
     where
       go : (b : Bool) → closed_in place ≡ b → (l : Bool) → leb lines_most (lines_in place) ≡ l
-          → Closes place pair frame memory (closing_of place) (place_closed place) pair memory
+          → Closes place pair frame memory (closing None (closing_of place)) (place_closed place) pair memory
       go true e l k =
-          let c : closing_of place ≡ record { reply = Refused 17; totals = no_totals } = rw e in
+          let c : closing_of place ≡ Err ReplayClosed = rw e in
           let w : place_closed place ≡ place = rw e in
           rw (c, w)
           (close-told place pair frame memory
-          (record { state = state_of place pair frame memory; reply = Refused 17; totals = no_totals }) (rw e) place pair
-          memory refl)
+          (record { state = state_of place pair frame memory; reply = Err ReplayClosed; totals = no_totals }) (rw e) place
+          pair memory refl)
       go false o true k = none_last o (rw k)
       go false o false k =
           let last : last_in place ≡ not (empty_line (line_of place)) = rw (k, o) in
@@ -312,9 +363,9 @@ module _ (place : List ℕ) (pair : Pair) (frame memory : List ℕ) (room : 9000
           none_last o (rw (k, empty-is, empty))
 
   -- no last line: no host is asked
-  pub closed-bare : last_in place ≡ false → (closed : Closed) (place' : List ℕ)
+  pub closed-bare : last_in place ≡ false → (closed : Result Totals Reason) (place' : List ℕ)
       → (closed ≡ closing_of place) × (place' ≡ place_closed place)
-      → Closes place pair frame memory closed place' pair memory
+      → Closes place pair frame memory (closing None closed) place' pair memory
   closed-bare n closed place' e = rw (e.0, e.1) (bare n)
 
   -- a last line is there only where the replay is open and not full
@@ -342,11 +393,12 @@ module _ (place : List ℕ) (pair : Pair) (frame memory : List ℕ) (room : 9000
             last-there = rw (k, empty-is) (sym last ∙ n);
           }
 
-  -- a last line, and a host answered it
+  -- a last line, and a host answered it: the words are closed then, and not refused
   pub closed-line : last_in place ≡ true → (answer : Answer) (place' : List ℕ) (pair' : Pair) (memory' : List ℕ)
       → Answers place pair frame memory answer pair' memory' → place' ≡ counted place answer
-      → (end : Closed) (place'' : List ℕ) → (end ≡ closing_of place') × (place'' ≡ place_closed place')
-      → Closes place pair frame memory (record { reply = Answered answer; totals = end.totals }) place'' pair' memory'
+      → (end : Result Totals Reason) (place'' : List ℕ) → (end ≡ closing_of place') × (place'' ≡ place_closed place')
+      → Closes place pair frame memory (closing (Some answer) end) place'' pair' memory'
+      × (end ≡ Ok (totals_in place'))
   unfolding close
   closed-line n answer place' pair' memory' e p end place'' q =
       let l = last-is n in
@@ -359,22 +411,86 @@ module _ (place : List ℕ) (pair : Pair) (frame memory : List ℕ) (room : 9000
       let step : close (state_of place pair frame memory)
       ≡ record {
         state = now_closed (line_ended (state_of place pair frame memory));
-        reply = Answered (line_answer (state_of place pair frame memory));
+        reply = Ok (Some (line_answer (state_of place pair frame memory)));
         totals = (line_ended (state_of place pair frame memory)).totals;
       } =
       rw (l.last-there, l.still_open) in
-      let totals : end.totals ≡ (line_ended (state_of place pair frame memory)).totals =
-      ap (λ (x : Closed). x.totals) q.0 ∙ c.0 ∙ ap (λ (x : Replaying). x.totals) z in
-      let closed : ◌≡◌ {A = Closed} (record { reply = Answered answer; totals = end.totals })
-      (record {
-        reply = Answered (line_answer (state_of place pair frame memory));
+      let totals : totals_in place' ≡ (line_ended (state_of place pair frame memory)).totals =
+      ap (λ (x : Replaying). x.totals) z in
+      let ok : end ≡ Ok (totals_in place') = q.0 ∙ c.0 in
+      let closed : ◌≡◌ {A = Result Closed Reason} (closing (Some answer) end)
+      (Ok (record {
+        answer = Some (line_answer (state_of place pair frame memory));
         totals = (line_ended (state_of place pair frame memory)).totals;
-      }) =
-      rw (totals, a) in (
-        closed ∙ sym (ap closed_of step),
-        ap (λ (w : List ℕ). state_of w pair' frame memory') q.1 ∙ c.1 ∙ ap now_closed z
-            ∙ sym (ap (λ (x : ClosedStep). x.state) step),
+      })) =
+      rw (ok, totals, a) in (
+        (
+          closed ∙ sym (ap closed_of step),
+          ap (λ (w : List ℕ). state_of w pair' frame memory') q.1 ∙ c.1 ∙ ap now_closed z
+              ∙ sym (ap (λ (x : ClosedStep). x.state) step),
+        ),
+        ok,
       )
+
+-- ---- what a call's answer tells of its step
+
+pub fed-ok : (r : Reply) (n : ℕ) (x : Fed) → Ok x ≡ fed_with r n → (r ≡ Ok x.answer) × (n ≡ x.taken)
+fed-ok (Ok answer) n x e =
+    let k : x ≡ record { answer = answer; taken = n } = cc in
+    rw k (refl, refl)
+fed-ok (Err b) n x e =
+    let none : ⊥ = cc in
+    absurd none
+
+pub fed-err : (r : Reply) (n : ℕ) (d : Reason) → Err d ≡ fed_with r n → r ≡ Err d
+fed-err (Ok answer) n d e =
+    let none : ⊥ = cc in
+    absurd none
+fed-err (Err b) n d e = cc
+
+pub closed-ok : (r : Reply) (t : Totals) (x : Closed) → Ok x ≡ closed_with r t → (r ≡ Ok x.answer) × (t ≡ x.totals)
+closed-ok (Ok answer) t x e =
+    let k : x ≡ record { answer = answer; totals = t } = cc in
+    rw k (refl, refl)
+closed-ok (Err b) t x e =
+    let none : ⊥ = cc in
+    absurd none
+
+pub closed-err : (r : Reply) (t : Totals) (d : Reason) → Err d ≡ closed_with r t → r ≡ Err d
+closed-err (Ok answer) t d e =
+    let none : ⊥ = cc in
+    absurd none
+closed-err (Err b) t d e = cc
+
+-- a refused feeding takes nothing
+pub feed-err : (s : Replaying) (f : List ℕ) (d : Reason) → (feed s f).reply ≡ Err d → (feed s f).taken ≡ 0
+unfolding feed
+feed-err s f d e = go s.closed refl (leb lines_most s.lines) refl (has_newline f) refl
+  where
+    never : (a : Option Answer) → (feed s f).reply ≡ Ok a → ⊥
+    never a q = cc
+
+    go : (b : Bool) → s.closed ≡ b → (l : Bool) → leb lines_most s.lines ≡ l → (n : Bool) → has_newline f ≡ n
+        → (feed s f).taken ≡ 0
+    go true c l k n h = rw c
+    go false c true k n h = absurd (never None (rw (k, c)))
+    go false c false k true h = absurd (never (Some (line_answer (with_characters (up_to_newline f) s))) (rw (h, k, c)))
+    go false c false k false h = absurd (never None (rw (h, k, c)))
+
+-- a closing is refused with 17 alone
+pub close-err : (s : Replaying) (d : Reason) → (close s).reply ≡ Err d → d ≡ ReplayClosed
+unfolding close
+close-err s d e = go s.closed refl (has_last s) refl
+  where
+    never : (a : Option Answer) → (close s).reply ≡ Ok a → ⊥
+    never a q = cc
+
+    go : (b : Bool) → s.closed ≡ b → (l : Bool) → has_last s ≡ l → d ≡ ReplayClosed
+    go true c l h =
+        let q : (close s).reply ≡ Err ReplayClosed = rw c in
+        cc
+    go false c true h = absurd (never (Some (line_answer s)) (rw (h, c)))
+    go false c false h = absurd (never None (rw (h, c)))
 
 -- ---- opening
 

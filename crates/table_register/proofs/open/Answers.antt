@@ -7,7 +7,7 @@ use Rattle.table_register.proofs.Changing.{free-start, free-turn, free-done}
 use Rattle.table_register.proofs.open.Goals as goal
 
 pub loop-k-init : goal.loop-k-init
-loop-k-init c = free-start c.args.words.now _ (omega arith) c.if-words-ne-TABLE_WORDS.false
+loop-k-init c = rw c.from.ensures (free-start c.args.words.now _ (omega arith) c.if-words-ne-TABLE_WORDS.false)
 
 pub loop-k-preserved : goal.loop-k-preserved
 loop-k-preserved c =

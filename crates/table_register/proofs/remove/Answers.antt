@@ -14,11 +14,11 @@ returns-then-source-eq0 c =
       λ q. refl,
     )
 
-pub returns-then-k-ge-PLACES : goal.returns-then-k-ge-PLACES
-returns-then-k-ge-PLACES c =
+pub returns-in_default : goal.returns-in_default
+returns-in_default c =
     let a = c.args in (
       (
-        λ l. remove-unknown a.words.now a.source _ c.place_of-k.ensures c.if-k-ge-PLACES.true,
+        λ l. remove-unknown a.words.now a.source _ refl c.in_default.ensures.none,
         λ n. absurd (n c.if-words-ne-TABLE_WORDS.false),
       ),
       λ q. refl,
@@ -28,8 +28,8 @@ pub returns : goal.returns
 returns c =
     let a = c.args in (
       (
-        λ l. remove-done a.words.now a.source _ _ c.if-source-eq0.false c.place_of-k.ensures
-            c.if-k-ge-PLACES.false c.put_place.ensures,
+        λ l. remove-done a.words.now a.source _ _ c.if-source-eq0.false c.in-Some.ensures.some.0
+            c.in-Some.ensures.some.1 c.put_place.ensures,
         λ n. absurd (n c.if-words-ne-TABLE_WORDS.false),
       ),
       λ q. absurd (q refl),

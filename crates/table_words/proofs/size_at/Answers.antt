@@ -1,16 +1,8 @@
--- `table_words::size_at`: how long a place's region is.
+-- `table_words::size_at`: what is read of a place's words.
 -- Assumes nothing.
-use mathlib.Core.Path.{sym, ◌∙◌, ap}
-use Rattle.table.specs.Table.{Entry}
-use Rattle.table_words.proofs.Laws.{table_at, table-past}
+use mathlib.Core.Path.{sym, ◌∙◌}
+use Rattle.table_words.proofs.Laws.{place-words}
 use Rattle.table_words.proofs.size_at.Goals as goal
 
-pub returns-then-k-ge-PLACES : goal.returns-then-k-ge-PLACES
-returns-then-k-ge-PLACES c =
-    let a = c.args in
-    sym (ap (λ (e : Entry). e.size) (table-past a.w.now a.k c.if-k-ge-PLACES.true))
-
 pub returns : goal.returns
-returns c =
-    let a = c.args in
-    c.word.ensures ∙ sym (ap (λ (e : Entry). e.size) (table_at a.w.now a.k c.if-k-ge-PLACES.false))
+returns c = c.word_at.ensures ∙ sym (place-words c.args.w.now c.args.k).2

@@ -1,17 +1,9 @@
--- `table_words::source_at`: the source at a place.
+-- `table_words::source_at`: what is read of a place's words.
 -- Assumes nothing.
-use mathlib.Core.Path.{sym, ap}
-use Rattle.table.specs.Table.{Entry}
-use Rattle.table_words.proofs.Laws.{table_at, table-past}
+use Prim.Native.Nat.{ℕ, ◌%◌}
+use mathlib.Core.Path.{sym, ◌∙◌, ap}
+use Rattle.table_words.proofs.Laws.{place-words}
 use Rattle.table_words.proofs.source_at.Goals as goal
 
-pub returns-then-k-ge-PLACES : goal.returns-then-k-ge-PLACES
-returns-then-k-ge-PLACES c =
-    let a = c.args in
-    sym (ap (λ (e : Entry). e.source) (table-past a.w.now a.k c.if-k-ge-PLACES.true))
-
 pub returns : goal.returns
-returns c =
-    let a = c.args in
-    rw c.word.ensures
-    (sym (ap (λ (e : Entry). e.source) (table_at a.w.now a.k c.if-k-ge-PLACES.false)))
+returns c = ap (λ (x : ℕ). x % 65536) c.word_at.ensures ∙ sym (place-words c.args.w.now c.args.k).0

@@ -1,22 +1,13 @@
--- `wire_read::data_at`: the three ways past the end, and the part past the header.
+-- `wire_read::data_at`: the part past the header, or none.
 -- Assumes nothing.
-use native.Mathlib.Nat.{add-sub_cancel_left}
-use native.Mathlib.Omega.{arith}
+use mathlib.Core.Path.{◌∙◌}
 use Rattle.wire_read.proofs.Finding.{data-past, data-whole}
 use Rattle.wire_read.proofs.data_at.Goals as goal
 
-pub returns-then-size-lt-MESSAGE_HEADER : goal.returns-then-size-lt-MESSAGE_HEADER
-returns-then-size-lt-MESSAGE_HEADER c = let a = c.args in data-past a.f.now a.at (omega arith)
+pub returns-in-Some : goal.returns-in-Some
+returns-in-Some c =
+    let p = c.in-Some.ensures in
+    p.payload_is ∙ data-whole c.args.f.now c.args.at p.inside
 
-pub returns-then-size-at : goal.returns-then-size-at
-returns-then-size-at c = let a = c.args in data-past a.f.now a.at (omega arith)
-
-pub returns-then-size-end : goal.returns-then-size-end
-returns-then-size-end c =
-    let a = c.args in
-    data-past a.f.now a.at (omega (arith, c.u16_in.ensures))
-
-pub returns : goal.returns
-returns c =
-    let a = c.args in
-    rw (add-sub_cancel_left, c.u16_in.ensures) (data-whole a.f.now a.at (omega (arith, c.u16_in.ensures)))
+pub returns-in-None : goal.returns-in-None
+returns-in-None c = data-past c.args.f.now c.args.at c.in-None.ensures

@@ -1,16 +1,9 @@
--- `wire_read::frame_header`: each field as the definition reads it.
+-- `wire_read::frame_header`: the fields of the first ten bytes are the frame's.
 -- Assumes nothing.
-use Rattle.wire_read.specs.Finding.{header_of}
+use mathlib.Core.Path.{◌∙◌}
+use Rattle.wire_read.proofs.Parts.{header-part}
 use Rattle.wire_read.proofs.frame_header.Goals as goal
 
-pub returns : goal.returns
-unfolding header_of
-returns c =
-    rw (
-      c.u16_or_zero.ensures,
-      c.u16_or_zero-2.ensures,
-      c.u16_or_zero-3.ensures,
-      c.u16_or_zero-4.ensures,
-      c.byte_or_zero.ensures,
-      c.byte_or_zero-2.ensures,
-    )
+pub returns-in-Some : goal.returns-in-Some
+returns-in-Some c =
+    c.header_fields.ensures ∙ rw c.in-Some.ensures.cases.same (header-part c.args.f.now)

@@ -7,11 +7,4 @@ use Rattle.wire_read.proofs.header_in.Goals as goal
 
 pub returns : goal.returns
 unfolding head_at message_header message_at
-returns c =
-    rw (
-      c.u32_in.ensures,
-      c.u32_in-2.ensures,
-      c.u32_in-3.ensures,
-      c.u16_in.ensures,
-      c.u32_in-4.ensures,
-    )
+returns c = cc

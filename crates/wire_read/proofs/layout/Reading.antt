@@ -1,49 +1,35 @@
--- The layout's number, and the walk over a frame's messages.
+-- The walk over a frame's messages.
 -- Assumes nothing.
 use mathlib.Core.Path.{◌≡◌, refl, sym, ◌∙◌, ap}
-use mathlib.Core.Bool.{Bool, true, false}
+use mathlib.Core.Bool.{true, false}
 use mathlib.Core.List.{List}
 use mathlib.Core.Option.{Option, none, some}
 use Prim.Native.Nat.{ℕ, zero, suc, ◌+◌, ◌≤◌, ◌<◌}
 use native.Mathlib.Nat.{zero-add, add-zero}
 use native.Mathlib.Omega.{arith}
 use lib.ListN.{length}
-use Rattle.wire.specs.declared.MessageHeader.{MessageHeader}
+use Rattle.std.specs.Prelude.{Some, None}
 use Rattle.wire.specs.Format.{Message, next_header}
-use Rattle.wire.specs.Reading.{
-  Read,
-  bad,
-  good,
-  data_end,
-  message_at,
-  prepend,
-  messages_from,
-  or_passes_end,
-  refusal_of,
-}
-use Rattle.wire_read.specs.declared.Found.TheVariants.{PastEnd, Whole}
+use Rattle.wire.specs.Reading.{Read, data_end, message_at, prepend, messages_from, or_passes_end, refusal_of}
+use Rattle.wire_read.specs.declared.Found.{Found}
 use Rattle.wire_read.specs.Finding.{found_at}
 use Rattle.wire_read.proofs.Finding.{IsWhole, is_whole, is-past, step_past, step-last, step-more}
 use Rattle.wire_read.specs.declared.layout.Layout.{Layout}
-use Rattle.wire_read.specs.declared.layout.Layout.TheVariants.{Refused, Counts}
-use Rattle.wire_read.specs.Layout.{total, layout_of, number_of}
-
--- ---- the refusal's number
-
-pub number-layout : (r : Read) → number_of (layout_of r) ≡ refusal_of r
-number-layout (bad r) = refl
-number-layout (good ms) = refl
+use Rattle.wire_read.specs.Layout.{total, layout_of}
 
 -- ---- the walk: m messages with b bytes stood before the offset, and `turns` are enough for the rest
 
-abbrev pub counted : ℕ → ℕ → Option (List Message) → Layout
-counted m b none = Refused 5
-counted m b (some ms) = Counts (m + length ms) (b + total ms)
+abbrev pub laid_out : Read → ℕ × Layout
+laid_out r = (refusal_of r, layout_of r)
 
-abbrev pub walked : List ℕ → Layout
-walked f = layout_of (or_passes_end (messages_from (length f) f 10))
+abbrev pub counted : ℕ → ℕ → Option (List Message) → ℕ × Layout
+counted m b none = (5, record { messages = 0; data_bytes = 0 })
+counted m b (some ms) = (0, record { messages = m + length ms; data_bytes = b + total ms })
 
-counted_none : (p : Option (List Message)) → layout_of (or_passes_end p) ≡ counted 0 0 p
+abbrev pub walked : List ℕ → Read
+walked f = or_passes_end (messages_from (length f) f 10)
+
+counted_none : (p : Option (List Message)) → laid_out (or_passes_end p) ≡ counted 0 0 p
 counted_none none = refl
 counted_none (some ms) = rw (zero-add (length ms), zero-add (total ms))
 
@@ -62,7 +48,7 @@ pub record Walked (f : List ℕ) (at m b : ℕ) : Type 0 where
   pub near : at < length f + 18
   pub messages-low : m ≤ at
   pub bytes_low : b ≤ at
-  pub is : walked f ≡ counted m b (messages_from turns f at)
+  pub is : laid_out (walked f) ≡ counted m b (messages_from turns f at)
 
 pub walked_start : (f : List ℕ) → Walked f 10 0 0
 walked_start f =
@@ -75,13 +61,13 @@ walked_start f =
       is = counted_none (messages_from (length f) f 10);
     }
 
-pub walked-past : {f : List ℕ} {at m b : ℕ} → Walked f at m b → found_at f at ≡ PastEnd → Refused 5 ≡ walked f
-walked-past {f} {at} {m} {b} w e = sym (w.is ∙ ap (counted m b) (step_past f at w.turns (is-past f at e)))
+pub walked-past : {f : List ℕ} {at m b : ℕ} → Walked f at m b → found_at f at ≡ None → 5 ≡ refusal_of (walked f)
+walked-past {f} {at} {m} {b} w e =
+    sym (ap (λ (p : ℕ × Layout). p.0) (w.is ∙ ap (counted m b) (step_past f at w.turns (is-past f at e))))
 
 -- what one turn does: there is a turn left for it, as the message lies in the frame
-module _ {f : List ℕ} {at m b : ℕ} {h : MessageHeader} {len : ℕ} {more : Bool} {next : ℕ} (w : Walked f at m b)
-    (e : found_at f at ≡ Whole h len more next) where
-  i : IsWhole f at h len more next
+module _ {f : List ℕ} {at m b : ℕ} {x : Found} (w : Walked f at m b) (e : found_at f at ≡ Some x) where
+  i : IsWhole f at x.header x.len x.more x.next
   i = is_whole e
 
   turn-left : (n : ℕ) × (w.turns ≡ suc n)
@@ -91,15 +77,15 @@ module _ {f : List ℕ} {at m b : ℕ} {h : MessageHeader} {len : ℕ} {more : B
       go zero q = absurd (omega (arith, i.inside-frame, w.enough))
       go (suc n) q = (n, q)
 
-  pub walked-last : more ≡ false → Counts (m + 1) (b + len) ≡ walked f
+  pub walked-last : x.more ≡ false → laid_out (walked f) ≡ (0, record { messages = m + 1; data_bytes = b + x.len })
   unfolding total
   walked-last t =
       let n = turn-left.0 in
-      sym (w.is ∙ ap (λ (k : ℕ). counted m b (messages_from k f at)) turn-left.1
+      w.is ∙ ap (λ (k : ℕ). counted m b (messages_from k f at)) turn-left.1
       ∙ ap (counted m b) (step-last f at n i.inside-frame (sym i.more-is ∙ t))
-      ∙ rw (i.bytes-are, add-zero len))
+      ∙ rw (i.bytes-are, add-zero x.len)
 
-  pub walked-turn : more ≡ true → Walked f next (m + 1) (b + len)
+  pub walked-turn : x.more ≡ true → Walked f x.next (m + 1) (b + x.len)
   walked-turn t =
       let n = turn-left.0 in
       let left : w.turns ≡ suc n = turn-left.1 in

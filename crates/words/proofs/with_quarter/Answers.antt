@@ -2,7 +2,6 @@
 -- Assumes nothing.
 use mathlib.Core.Path.{sym}
 use native.Mathlib.Omega.{arith}
-use Rattle.words.specs.Words.{part}
 use Rattle.words.proofs.Words.{replaced, put-past}
 use borrow.Author.Rules.{rules}
 use Rattle.words.proofs.with_quarter.Goals as goal
@@ -13,20 +12,19 @@ returns-then-j-ge4 c =
     sym (put-past 16 4 a.x a.j a.v (search rules) c.if-j-ge4.true)
 
 pub overflow_sub-result : goal.overflow_sub-result
-unfolding part
 overflow_sub-result c =
     let a = c.args in
+    rw (c.from.ensures, c.quarter.ensures)
     (replaced 16 4 a.x a.j a.v (search rules) c.if-j-ge4.false (search rules)).out-fits
 
 pub overflow_add-result : goal.overflow_add-result
-unfolding part
 overflow_add-result c =
     let a = c.args in
     let k = replaced 16 4 a.x a.j a.v (search rules) c.if-j-ge4.false (search rules) in
-    omega (arith, k.is, k.is-fits)
+    rw (c.from.ensures, c.quarter.ensures, c.from-2.ensures) (omega (arith, k.is, k.is-fits))
 
 pub returns : goal.returns
-unfolding part
 returns c =
     let a = c.args in
+    rw (c.from.ensures, c.quarter.ensures, c.from-2.ensures)
     (replaced 16 4 a.x a.j a.v (search rules) c.if-j-ge4.false (search rules)).is

@@ -1,13 +1,18 @@
 -- `capi::frame::header_in`: the layout says which header.
 -- Assumes nothing.
-use mathlib.Core.Path.{◌≡◌, ◌∙◌}
-use mathlib.Core.List.{List}
-use Prim.Native.Nat.{ℕ}
+use mathlib.Core.Path.{◌≡◌, refl, sym, ap, ◌∙◌}
+use mathlib.Core.Bool.{true}
+use mathlib.Core.List.{List, []}
+use Prim.Native.Nat.{ℕ, ◌≤◌, ◌<◌}
+use native.Mathlib.Decide.{dec_le}
+use native.Mathlib.Omega.{arith}
+use Rattle.refusal.proofs.Numbers.{number-positive}
 use Rattle.wire.specs.declared.FrameHeader.{FrameHeader}
-use Rattle.wire_read.specs.declared.layout.Layout.{Layout}
-use Rattle.wire_read.specs.declared.layout.Layout.TheVariants.{Refused, Counts}
+use Rattle.wire.specs.Format.{Message}
+use Rattle.wire.specs.Reading.{flags, Read, bad, good, read_frame, refusal_of}
+use Rattle.wire.proofs.Reading.{readable}
 use Rattle.wire_read.specs.Finding.{header_of}
-use Rattle.capi.specs.Numbers.{layout_in, header_in}
+use Rattle.capi.specs.Numbers.{header_in}
 use Rattle.capi.proofs.frame.header_in.Goals as goal
 
 abbrev zeros : FrameHeader
@@ -20,21 +25,33 @@ zeros = record {
   flags = 0;
 }
 
--- a frame whose layout is read has the header that stands on the wire
-whole : (f : List ℕ) (read : Layout) (messages bytes : ℕ) → read ≡ layout_in f → read ≡ Counts messages bytes
-    → header_of f ≡ header_in f
+-- a frame that is not refused has messages, or none
+read_good : (f : List ℕ) → refusal_of (read_frame true f) ≡ 0 → (ms : List Message) × (read_frame true f ≡ good ms)
+read_good f e = go (dec_le (flags f) 0)
+  where
+    go : Dec (flags f ≤ 0) → (ms : List Message) × (read_frame true f ≡ good ms)
+    go (yes z) = ([], (readable true f e).none_read (omega arith))
+    go (no n) =
+        let read = readable true f e in
+        let some_there = read.some_read (omega (arith, read.flag)) in
+        (some_there.0, some_there.2)
+
+-- it has the header that stands on the wire
+whole : (f : List ℕ) → 0 ≡ refusal_of (read_frame true f) → header_of f ≡ header_in f
 unfolding header_in header_of
-whole f read messages bytes e q = rw (← e, q)
+whole f e = rw (read_good f (sym e)).1
 
--- and one whose layout is refused has zeros
-refused : (f : List ℕ) (read : Layout) (r : ℕ) → read ≡ layout_in f → read ≡ Refused r → zeros ≡ header_in f
+-- and one that is refused has zeros
+refused : (f : List ℕ) (n : ℕ) → 0 < n → n ≡ refusal_of (read_frame true f) → zeros ≡ header_in f
 unfolding header_in
-refused f read r e q = rw (← e, q)
+refused f n h e = go (read_frame true f) refl
+  where
+    go : (r : Read) → read_frame true f ≡ r → zeros ≡ header_in f
+    go (bad r) q = rw q
+    go (good ms) q = absurd (omega (arith, e ∙ ap refusal_of q))
 
-pub returns-in-Counts : goal.returns-in-Counts
-returns-in-Counts c =
-    c.frame_header-header.ensures
-    ∙ whole _ _ _ _ c.layout_of-read.ensures c.in-Counts.is
+pub returns-in-Ok : goal.returns-in-Ok
+returns-in-Ok c = c.frame_header.ensures ∙ whole _ c.in-Ok.ensures.refused
 
-pub returns-in-Refused : goal.returns-in-Refused
-returns-in-Refused c = refused _ _ _ c.layout_of-read.ensures c.in-Refused.is
+pub returns-in-Err : goal.returns-in-Err
+returns-in-Err c = refused _ _ (number-positive _) c.in-Err.ensures.refused

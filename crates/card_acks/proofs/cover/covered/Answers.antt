@@ -9,7 +9,7 @@ pub returns-then-end-le65536 : goal.returns-then-end-le65536
 returns-then-end-le65536 c =
     let a = c.args in
     c.between-run.ensures
-    ∙ covered-near a.base.0 a.start.0 a.count _ (search rules) (search rules) (search rules)
+    ∙ covered-near a.base.0 a.range.start.0 a.range.count _ (search rules) (search rules) (search rules)
     c.distance-first.ensures
     c.if-end-le65536.true
 
@@ -17,6 +17,6 @@ pub returns : goal.returns
 returns c =
     let a = c.args in
     rw (c.between-run.ensures, c.below.ensures)
-    (covered-round a.base.0 a.start.0 a.count _ (search rules) (search rules) (search rules)
+    (covered-round a.base.0 a.range.start.0 a.range.count _ (search rules) (search rules) (search rules)
     c.distance-first.ensures
     c.if-end-le65536.false)

@@ -9,7 +9,5 @@ pub returns-then-distance-eq0 : goal.returns-then-distance-eq0
 returns-then-distance-eq0 c =
     let a = c.args in
     c.marked_before.ensures
-    ∙ none-now (card_of a.words.now).sendings a.from.0 a.base.0 (sym c.distance.ensures ∙ c.if-distance-eq0.true)
-
-pub returns : goal.returns
-returns c = c.marked_now.ensures
+    ∙ none-now (card_of a.words.now).sendings a.released.from.0 a.released.base.0
+    (sym c.distance.ensures ∙ c.if-distance-eq0.true)

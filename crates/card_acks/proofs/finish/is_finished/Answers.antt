@@ -10,14 +10,14 @@ pub returns-then-is_marked : goal.returns-then-is_marked
 unfolding finished_now
 returns-then-is_marked c =
     let a = c.args in
-    let m : c.is_marked.result ≡ mark a.finished a.i = c.is_marked.ensures in
+    let m : c.is_marked.result ≡ mark a.h.finished a.i = c.is_marked.ensures in
     rw (← m, c.if-is_marked.true)
 
 pub returns : goal.returns
 unfolding finished_now
 returns c =
     let a = c.args in
-    let m : c.is_marked.result ≡ mark a.finished a.i = c.is_marked.ensures in
+    let m : c.is_marked.result ≡ mark a.h.finished a.i = c.is_marked.ensures in
     rw (← m, c.if-is_marked.false)
     (c.is_all_released.ensures
-    ∙ rw (c.sending_at-e.ensures, c.advance.ensures, entry-is _ a.lowest.0 a.i))
+    ∙ rw (c.sending_at-e.ensures, c.advance.ensures, entry-is _ a.h.lowest.0 a.i))

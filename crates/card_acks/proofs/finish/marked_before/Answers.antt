@@ -6,4 +6,4 @@ use Rattle.card_acks.proofs.finish.marked_before.Goals as goal
 pub returns : goal.returns
 returns c =
     let a = c.args in
-    finished-before a.words.now _ c.head_of-h.ensures _ _ c.distance.ensures c.below.ensures
+    finished-before a.words.now _ c.head_of-h.ensures _ _ c.opened.ensures c.below.ensures

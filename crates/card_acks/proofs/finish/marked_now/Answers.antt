@@ -14,11 +14,11 @@ pub loop-i-preserved : goal.loop-i-preserved
 loop-i-preserved c =
     let a = c.args in
     let w = a.words.now in
-    let most = looked-at w _ c.head_of-h.ensures _ _ c.distance.ensures c.at_most_32-opened.ensures in
+    let most = looked-at w _ c.head_of-h.ensures _ _ c.opened.ensures c.min-i-end.ensures in
     one_more 32 _ _ _ c.loop-i.invariant
-    (within-32 (card_of w).sendings a.from.0 a.base.0 _ most _ c.loop-i-test.true)
+    (within-32 (card_of w).sendings a.released.from.0 a.released.base.0 _ most _ c.loop-i-test.true)
     (c.is_finished.ensures
-    ∙ one-is (card_of w).sendings a.from.0 a.base.0 _ most _ _ _ c.loop-i-test.true (finished-is w _ c.head_of-h.ensures) (lowest-is w _ c.head_of-h.ensures))
+    ∙ one-is (card_of w).sendings a.released.from.0 a.released.base.0 _ most _ _ _ c.loop-i-test.true (finished-is w _ c.head_of-h.ensures) (lowest-is w _ c.head_of-h.ensures))
     (elim c.if-is_finished.branch [
       | then-is_finished w ↦ w.finished-is ∙ w.with_mark-finished.ensures ∙ sym (rw w.if-is_finished.true)
       | else-is_finished w ↦ w.finished-is ∙ sym (rw w.if-is_finished.false)
@@ -28,5 +28,5 @@ pub returns : goal.returns
 returns c =
     let a = c.args in
     let w = a.words.now in
-    let most = looked-at w _ c.head_of-h.ensures _ _ c.distance.ensures c.at_most_32-opened.ensures in
-    finished-all (card_of w).sendings a.from.0 a.base.0 _ most c.loop-i.invariant c.loop-i-test.false
+    let most = looked-at w _ c.head_of-h.ensures _ _ c.opened.ensures c.min-i-end.ensures in
+    finished-all (card_of w).sendings a.released.from.0 a.released.base.0 _ most c.loop-i.invariant c.loop-i-test.false

@@ -17,11 +17,12 @@ overflow_add-start c = omega (arith, c.header_offset-start.ensures, next-gap c.a
 pub returns-then-most-start : goal.returns-then-most-start
 returns-then-most-start c =
     let a = c.args in
-    sym (lt-ltb a.limit (next_header a.used + 24 + length a.payload.now)
-    (omega (arith, c.if-most-start.true, c.header_offset-start.ensures)))
+    rw (lt-ltb _ _ c.if-most-start.true)
+    (sym (lt-ltb a.limit (next_header a.used + 24 + length a.payload.now)
+    (omega (arith, c.if-most-start.true, c.header_offset-start.ensures))))
 
-pub returns : goal.returns
-returns c =
+pub returns-else-most-start : goal.returns-else-most-start
+returns-else-most-start c =
     let a = c.args in
     past-limit a.limit (c.header_offset-start.result + 24) (length a.payload.now)
     (omega (arith, c.if-most-start.false))

@@ -12,18 +12,20 @@ pub returns-then-words-ne-CARD_WORDS : goal.returns-then-words-ne-CARD_WORDS
 unfolding opened_in
 returns-then-words-ne-CARD_WORDS c =
     record {
-      value = rw (ne_eqb _ 85 c.if-words-ne-CARD_WORDS.true);
+      refused = rw (ne_eqb _ 85 c.if-words-ne-CARD_WORDS.true);
+      opened = tt;
       steps = (λ l. absurd (c.if-words-ne-CARD_WORDS.true l), λ n. refl);
     }
 
-pub returns-then-distance-ge32 : goal.returns-then-distance-ge32
+pub returns-then-opened-ge32 : goal.returns-then-opened-ge32
 unfolding opened_in
-returns-then-distance-ge32 c =
+returns-then-opened-ge32 c =
     let a = c.args in
     let full =
-    window-full a.words.now _ c.head_of-h.ensures _ c.distance.ensures a.count a.address a.value
-    c.if-distance-ge32.true in record {
-      value = rw (eq-eqb _ 85 c.if-words-ne-CARD_WORDS.false, full);
+    window-full a.words.now _ c.head_of-h.ensures _ c.opened.ensures a.count a.address a.value
+    c.if-opened-ge32.true in record {
+      refused = rw (eq-eqb _ 85 c.if-words-ne-CARD_WORDS.false, full);
+      opened = tt;
       steps = (λ l. sym (ap (λ (o : TransOpened). o.card) full), λ n. refl);
     }
 
@@ -32,9 +34,10 @@ unfolding opened_in
 returns c =
     let a = c.args in
     let done =
-    opened-now a.words.now _ c.head_of-h.ensures _ c.distance.ensures a.count a.address a.value
-    c.if-distance-ge32.false _ _ _ c.advance-next.ensures (c.put_sending.ensures.0 c.if-words-ne-CARD_WORDS.false)
+    opened-now a.words.now _ c.head_of-h.ensures _ c.opened.ensures a.count a.address a.value
+    c.if-opened-ge32.false _ _ _ c.advance.ensures (c.put_sending.ensures.0 c.if-words-ne-CARD_WORDS.false)
     (c.put_head.ensures.0 (search rules)) in record {
-      value = rw (eq-eqb _ 85 c.if-words-ne-CARD_WORDS.false, done);
+      refused = rw (eq-eqb _ 85 c.if-words-ne-CARD_WORDS.false, done);
+      opened = rw (eq-eqb _ 85 c.if-words-ne-CARD_WORDS.false, done);
       steps = (λ l. sym (ap (λ (o : TransOpened). o.card) done), λ n. absurd (n refl));
     }

@@ -5,5 +5,5 @@ use Rattle.card_send.proofs.choose.before_held.Goals as goal
 
 pub returns : goal.returns
 returns c =
-    before-is c.args.words.now _ c.head_of-h.ensures _ c.distance.ensures _
+    before-is c.args.words.now _ c.head_of-h.ensures _ c.unreleased.ensures _
     c.run_within.ensures

@@ -1,24 +1,26 @@
--- `choose_next`: the lent acknowledgement first, unless the choice is refused.
+-- `choose_next`: the lent acknowledgement, or the bytes of the frame's part.
 -- Assumes nothing.
-use mathlib.Core.Path.{sym, ◌∙◌}
-use Rattle.card_send.proofs.choose.Choosing.{chosen_none, chosen-some}
+use mathlib.Core.Path.{◌∙◌}
+use Rattle.card_send.proofs.choose.Choosing.{frame-goes-out, lent-goes-out, nothing-goes-out}
 use Rattle.card_send.proofs.choose.choose_next.Goals as goal
 
-pub returns-then-choose_refusal-ne0 : goal.returns-then-choose_refusal-ne0
-returns-then-choose_refusal-ne0 c =
+pub bytes_of-requires : goal.bytes_of-requires
+bytes_of-requires c =
     let a = c.args in
-    chosen_none a.words.now a.slots.now a.ack.now _ c.choose_refusal.ensures c.if-choose_refusal-ne0.true
+    (frame-goes-out a.words.now a.slots.now a.ack.now c.in-Ok-Frame.part (rw c.in-Ok-Frame.field-0-is at c.in-Ok-Frame.ensures.chosen)).inside
 
-pub returns-then-is_ack : goal.returns-then-is_ack
-returns-then-is_ack c =
+pub returns-in-Ok-Acknowledgement : goal.returns-in-Ok-Acknowledgement
+returns-in-Ok-Acknowledgement c =
     let a = c.args in
-    let e = chosen-some a.words.now a.slots.now a.ack.now _ c.choose_refusal.ensures c.if-choose_refusal-ne0.false in
-    rw (sym c.is_ack.ensures ∙ c.if-is_ack.true) at e
+    lent-goes-out a.words.now a.slots.now a.ack.now (rw c.in-Ok-Acknowledgement.field-0-is at c.in-Ok-Acknowledgement.ensures.chosen)
 
-pub returns : goal.returns
-returns c =
+pub returns-in-Ok-Frame : goal.returns-in-Ok-Frame
+returns-in-Ok-Frame c =
     let a = c.args in
-    let e = chosen-some a.words.now a.slots.now a.ack.now _ c.choose_refusal.ensures c.if-choose_refusal-ne0.false in
-    c.sealed_frame.ensures
-    ∙ rw c.oldest_held-n.ensures
-    (rw (sym c.is_ack.ensures ∙ c.if-is_ack.false) at e)
+    c.bytes_of.ensures
+    ∙ (frame-goes-out a.words.now a.slots.now a.ack.now c.in-Ok-Frame.part (rw c.in-Ok-Frame.field-0-is at c.in-Ok-Frame.ensures.chosen)).is
+
+pub returns-in-Err : goal.returns-in-Err
+returns-in-Err c =
+    let a = c.args in
+    nothing-goes-out a.words.now a.slots.now a.ack.now _ c.in-Err.ensures.refused

@@ -1,16 +1,20 @@
--- `show_frame`: the frame, unless the showing is refused.
+-- `show_frame`: the bytes of the part that is shown.
 -- Assumes nothing.
 use mathlib.Core.Path.{◌∙◌}
-use Rattle.card_send.proofs.show.Parts.{shown-none, shown-some}
+use Rattle.card_send.proofs.show.Parts.{shown-is, nothing-shown}
 use Rattle.card_send.proofs.show.show_frame.Goals as goal
 
-pub returns-then-show_refusal-ne0 : goal.returns-then-show_refusal-ne0
-returns-then-show_refusal-ne0 c =
+pub bytes_of-requires : goal.bytes_of-requires
+bytes_of-requires c =
     let a = c.args in
-    shown-none a.words.now a.slots.now a.n.0 _ c.show_refusal.ensures c.if-show_refusal-ne0.true
+    rw c.in-Ok.ensures.shown (shown-is a.words.now a.slots.now a.n.0).inside
 
-pub returns : goal.returns
-returns c =
+pub returns-in-Ok : goal.returns-in-Ok
+returns-in-Ok c =
     let a = c.args in
-    c.sealed_frame.ensures
-    ∙ shown-some a.words.now a.slots.now a.n.0 _ c.show_refusal.ensures c.if-show_refusal-ne0.false
+    c.bytes_of.ensures ∙ rw c.in-Ok.ensures.shown (shown-is a.words.now a.slots.now a.n.0).is
+
+pub returns-in-Err : goal.returns-in-Err
+returns-in-Err c =
+    let a = c.args in
+    nothing-shown a.words.now a.slots.now a.n.0 _ c.in-Err.ensures.refused

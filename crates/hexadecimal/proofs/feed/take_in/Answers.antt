@@ -7,8 +7,9 @@ use Rattle.hexadecimal.proofs.feed.take_in.Goals as goal
 
 pub returns-then-piece-at-eq10 : goal.returns-then-piece-at-eq10
 returns-then-piece-at-eq10 c =
-    let front = front-walked _ _ _ _ _ _ (c.take_pairs-front.ensures.value, c.take_pairs-front.ensures.frame_after) in let whole = (walked-newline front c.if-at-piece.true c.if-piece-at-eq10.true) in
-    record { value = rw c.taken_of.ensures whole.0; frame_after = whole.1 }
+    let front = front-walked _ _ _ _ _ _ (c.take_pairs-front.ensures.value, c.take_pairs-front.ensures.frame_after) in
+    let whole = walked-newline front c.if-at-piece.true c.if-piece-at-eq10.true in
+    record { value = whole.0; frame_after = whole.1 }
 
 pub returns : goal.returns
 returns c =

@@ -5,7 +5,7 @@ use Rattle.hexadecimal.proofs.pairs.Laws.{Left}
 use Rattle.hexadecimal.proofs.pairs.take_pairs.Given as goal
 
 abbrev pub invariant-loop-len : goal.invariant-loop-len
-invariant-loop-len l = Left l.line l.initial.frame l.piece l.from l.until l.len l.half l.at l.frame
+invariant-loop-len l = Left l.line l.fn.frame l.piece l.from l.until l.len l.half l.at l.frame
 
 abbrev pub decreases-loop-len : goal.decreases-loop-len
 decreases-loop-len l = l.until - l.len

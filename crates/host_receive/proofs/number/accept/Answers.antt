@@ -7,7 +7,7 @@ use Rattle.host_receive.specs.Numbering.{accepted_head, run_of_accepted}
 use Rattle.host_receive.proofs.number.accept.Goals as goal
 
 pub overflow_cast-past : goal.overflow_cast-past
-overflow_cast-past c = omega (arith, c.trailing_ones-past.ensures, ones-le 64 c.with_mark-marked.result)
+overflow_cast-past c = omega (arith, c.run_length-past.ensures, ones-le 64 c.with_mark-marked.result)
 
 pub returns : goal.returns
 unfolding accepted_head run_of_accepted
@@ -27,7 +27,7 @@ returns c =
             c.advance.ensures,
             c.peer.ensures,
             c.own.ensures,
-            c.trailing_ones-past.ensures,
+            c.run_length-past.ensures,
             c.with_mark-marked.ensures,
             c.distance-d.ensures,
             c.marks-marks.ensures,
@@ -39,7 +39,7 @@ returns c =
             c.advance.ensures,
             c.peer.ensures,
             c.own.ensures,
-            c.trailing_ones-past.ensures,
+            c.run_length-past.ensures,
             c.with_mark-marked.ensures,
             c.distance-d.ensures,
             c.marks-marks.ensures,

@@ -1,7 +1,11 @@
--- `host_receive::validate::validate`: as found with no entry kept, or with words to keep them in.
+-- `host_receive::validate::validate`: no entry is changed at the start.
 -- Assumes nothing.
-use Rattle.std.proofs.Common.{⊎_elim}
+use Rattle.std.proofs.Common.{refl}
+use Rattle.host_receive.proofs.validate.Overlay.{apart-start, kept-start}
 use Rattle.host_receive.proofs.validate.validate.Goals as goal
 
-pub returns-then-found : goal.returns-then-found
-returns-then-found c = ⊎_elim (λ q. absurd (c.if-found.true q)) (λ e. e) c.find_apart-found.ensures
+pub find-requires : goal.find-requires
+find-requires c = apart-start _
+
+pub find-requires-in-Err-MetAgain : goal.find-requires-in-Err-MetAgain
+find-requires-in-Err-MetAgain c = kept-start _ _ refl

@@ -1,12 +1,7 @@
--- `host_store::restore::read_bytes`: the bytes read so far stand before what is left to read.
+-- `host_store::restore::read_bytes`: what is read so far, and what is left of the line.
 -- Assumes nothing.
-use Prim.Native.Nat.{◌-◌}
-use lib.ListN.{length}
 use Rattle.host_store.proofs.restore.Reading.{Taken}
 use Rattle.host_store.proofs.restore.read_bytes.Given as goal
 
-abbrev pub invariant-loop-i : goal.invariant-loop-i
-invariant-loop-i l = Taken l.text l.at (length l.initial.bytes) l.bytes l.from l.i
-
-abbrev pub decreases-loop-i : goal.decreases-loop-i
-decreases-loop-i l = length l.initial.bytes - l.i
+abbrev pub invariant-loop-byte : goal.invariant-loop-byte
+invariant-loop-byte g l = Taken l.text l.at g.row.N l.byte-items l.from l.byte-index

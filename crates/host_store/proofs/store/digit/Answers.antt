@@ -1,6 +1,8 @@
 -- `host_store::store::digit`: the digit of a number below 16.
 -- Assumes nothing.
 use borrow.Author.Tests.{lt-ltb, le-ltb}
+use Prim.Native.Nat.{◌+◌, ◌-◌}
+use native.Mathlib.Omega.{arith}
 use Rattle.hexadecimal.specs.Fields.{digit_of}
 use Rattle.host_store.proofs.store.digit.Goals as goal
 
@@ -8,6 +10,6 @@ pub returns-then-d-lt10 : goal.returns-then-d-lt10
 unfolding digit_of
 returns-then-d-lt10 c = rw (lt-ltb _ _ c.if-d-lt10.true)
 
-pub returns : goal.returns
+pub returns-else-d-lt10 : goal.returns-else-d-lt10
 unfolding digit_of
-returns c = rw (le-ltb _ _ c.if-d-lt10.false)
+returns-else-d-lt10 c = rw (le-ltb _ _ c.if-d-lt10.false)

@@ -5,14 +5,14 @@ use native.Mathlib.Omega.{arith}
 use Rattle.host_store.proofs.store.Putting.{put-turn, put-end}
 use Rattle.host_store.proofs.store.put_line.Goals as goal
 
-pub loop-i-preserved : goal.loop-i-preserved
-loop-i-preserved c =
-    put-turn _ _ _ c.loop-i.invariant c.loop-i-test.true refl c.digit.ensures
-    c.digit-in-loop-i.ensures
+pub loop-b-preserved : goal.loop-b-preserved
+loop-b-preserved c =
+    put-turn _ _ _ c.loop-b.invariant c.loop-b-test.true refl c.digit.ensures
+    c.digit-in-loop-b.ensures
 
 pub returns : goal.returns
 returns c =
     record {
       value = omega arith;
-      out_after = put-end c.loop-i.invariant c.loop-i-test.false;
+      out_after = put-end c.loop-b.invariant c.loop-b-test.false;
     }

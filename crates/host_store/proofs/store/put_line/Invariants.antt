@@ -5,8 +5,5 @@ use lib.ListN.{length}
 use Rattle.host_store.proofs.store.Putting.{Put}
 use Rattle.host_store.proofs.store.put_line.Given as goal
 
-abbrev pub invariant-loop-i : goal.invariant-loop-i
-invariant-loop-i l = Put l.initial.out l.at l.bytes l.out l.end l.i
-
-abbrev pub decreases-loop-i : goal.decreases-loop-i
-decreases-loop-i l = length l.bytes - l.i
+abbrev pub invariant-loop-b : goal.invariant-loop-b
+invariant-loop-b l = Put l.initial.out l.at l.bytes l.out l.end l.b-index

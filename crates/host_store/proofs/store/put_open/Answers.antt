@@ -14,7 +14,7 @@ pub put_line-requires : goal.put_line-requires
 put_line-requires c =
     omega (
       arith,
-      line-bytes _ _ _ c.open_bytes-bytes.ensures,
+      line-bytes _ _ _ c.open_bytes.ensures,
       one_at (pair_of c.args.words.now) _ _ c.entry_at-o.ensures c.if-o-eq0.false,
       c.requires,
     )
@@ -22,6 +22,6 @@ put_line-requires c =
 pub returns : goal.returns
 returns c =
     let whole = put-at _ _ _ _ _ _ _ (pair_of c.args.words.now) _ c.entry_at-o.ensures c.if-o-eq0.false
-    c.number_at-number.ensures
-    c.open_bytes-bytes.ensures (c.put_line.ensures.value, c.put_line.ensures.out_after) in
+    c.number_at.ensures
+    c.open_bytes.ensures (c.put_line.ensures.value, c.put_line.ensures.out_after) in
     record { value = whole.0; out_after = whole.1 }

@@ -13,12 +13,6 @@ loop-j-init c = counting-start _
 pub overflow_add-count : goal.overflow_add-count
 overflow_add-count c = omega (arith, c.loop-j.invariant)
 
-pub overflow_add-j : goal.overflow_add-j
-overflow_add-j c = omega (arith, c.loop-j.invariant)
-
-pub loop-j-smaller : goal.loop-j-smaller
-loop-j-smaller c = omega (arith, c.loop-j-test.true)
-
 pub loop-j-preserved : goal.loop-j-preserved
 loop-j-preserved c =
     counting-turn c.loop-j.invariant _ c.loop-j-test.true

@@ -24,12 +24,6 @@ put_open-at-requires c = (
   omega (arith, c.loop-j.invariant.low, c.loop-j-test.true),
 )
 
-pub overflow_add-j : goal.overflow_add-j
-overflow_add-j c = omega (arith, c.loop-j-test.true)
-
-pub loop-j-smaller : goal.loop-j-smaller
-loop-j-smaller c = omega (arith, c.loop-j-test.true)
-
 pub loop-j-preserved : goal.loop-j-preserved
 loop-j-preserved c =
     storing-turn c.loop-j.invariant _ _

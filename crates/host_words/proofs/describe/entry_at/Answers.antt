@@ -11,5 +11,5 @@ use Rattle.host_words.proofs.describe.entry_at.Goals as goal
 
 pub returns : goal.returns
 returns c =
-    c.entry.ensures ∙ sym (entry_at c.args.words.now (c.number_at-number.result.0 % 32) (omega arith))
-    ∙ ap (λ (n : ℕ). get_or (pair_of c.args.words.now).table (n % 32) free) c.number_at-number.ensures
+    c.entry.ensures ∙ sym (entry_at c.args.words.now (c.number_at.result.0 % 32) (omega arith))
+    ∙ ap (λ (n : ℕ). get_or (pair_of c.args.words.now).table (n % 32) free) c.number_at.ensures

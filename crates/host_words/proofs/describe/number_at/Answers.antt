@@ -4,4 +4,4 @@ use mathlib.Core.Path.{◌∙◌}
 use Rattle.host_words.proofs.describe.number_at.Goals as goal
 
 pub returns : goal.returns
-returns c = c.advance.ensures ∙ rw c.lowest-lowest.ensures
+returns c = c.advance.ensures ∙ rw c.lowest.ensures

@@ -5,9 +5,3 @@ use Rattle.host_words.proofs.opening.put_opened.Goals as goal
 
 pub returns-then-w-ne-WORDS : goal.returns-then-w-ne-WORDS
 returns-then-w-ne-WORDS c = (λ l. absurd (c.if-w-ne-WORDS.true l), λ n. (refl, refl))
-
-pub returns : goal.returns
-returns c = (
-  λ l. (c.pack.ensures.0 l, refl),
-  λ n. absurd (n c.if-w-ne-WORDS.false),
-)

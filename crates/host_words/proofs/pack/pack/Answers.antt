@@ -8,6 +8,6 @@ returns-then-w-ne-WORDS c = (λ l. absurd (c.if-w-ne-WORDS.true l), λ n. refl)
 
 pub returns : goal.returns
 returns c = (
-  λ l. c.put_table.ensures (c.put_head.auto.w ∙ l) ∙ rw (c.put_head.ensures.holds_head l),
+  λ l. c.put_table.ensures (c.put_head.auto.w ∙ l) ∙ rw (c.put_head.ensures.holds_head l, c.from.ensures),
   λ n. absurd (n c.if-w-ne-WORDS.false),
 )

@@ -11,5 +11,5 @@ returns c =
       c.marks.ensures,
       c.lowest.ensures,
       c.closed.ensures,
-      c.table_of-table.ensures,
+      c.table_of.ensures,
     )

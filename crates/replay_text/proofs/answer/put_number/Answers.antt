@@ -17,5 +17,5 @@ returns c =
     let whole =
     number_put a.text.now _ c.decimal-n.new.out a.at a.x n k.in_bounds.1 (few-digits n a.x c.ranges.x.fits k.len.2)
     (k.digits ∙ decimal-is n a.x k.len.0 k.len.1 k.len.2)
-    c.requires c.write.ensures.memory_after in
+    (omega arith) c.write.ensures.memory_after in
     record { value = whole.0; text_after = whole.1 }

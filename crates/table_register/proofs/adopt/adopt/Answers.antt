@@ -4,7 +4,8 @@ use native.Mathlib.Omega.{arith}
 use mathlib.Core.Path.{◌≡◌, refl, sym, ◌∙◌}
 use Rattle.host_words.specs.Words.{pair_of}
 use Rattle.table_words.specs.TableWords.{table_of}
-use Rattle.table_register.proofs.Changing.{room-left}
+use Rattle.std.proofs.lemmas.Result.{err_from_is_err_and}
+use Rattle.refusal.proofs.Numbers.{number-positive}
 use Rattle.table_register.proofs.adopt.Adopting.{both_right, adopts, adopt-foreign, adopt-refused, adopt-done}
 use Rattle.table_register.proofs.adopt.adopt.Goals as goal
 
@@ -16,20 +17,17 @@ returns-then-own c =
     c.own-2.ensures c.if-own.true)
     (both_right a.words.now a.pair.now c.if-words-ne-TABLE_WORDS.false c.if-pair-ne-WORDS.false) (λ n. refl)
 
-pub returns-then-refusal-ne0 : goal.returns-then-refusal-ne0
-returns-then-refusal-ne0 c =
+pub returns-in_err-k : goal.returns-in_err-k
+returns-in_err-k c =
     let a = c.args in
     let ours : (pair_of a.pair.now).own ≡ (table_of a.words.now).own =
     sym c.own.ensures ∙ c.if-own.false ∙ c.own-2.ensures in
-    adopts _ _ _ _ _ _ _
-    (λ p q. adopt-refused a.words.now a.pair.now a.first a.size a.memory ours _
-    c.peer-source.ensures _ c.register_refusal-refusal.ensures c.if-refusal-ne0.true)
-    (both_right a.words.now a.pair.now c.if-words-ne-TABLE_WORDS.false c.if-pair-ne-WORDS.false) (λ n. refl)
-
-pub put_entry-requires : goal.put_entry-requires
-put_entry-requires c =
-    let room = room-left _ _ _ _ _ _ c.register_refusal-refusal.ensures c.if-refusal-ne0.false in
-    (omega (arith, room, c.place_of-k.ensures), c.if-words-ne-TABLE_WORDS.false, c.if-pair-ne-WORDS.false)
+    let p = err_from_is_err_and c.from_residual.result c.from_residual.ensures.1 in
+    rw (p.1, p.2)
+    (adopts _ _ _ _ _ _ _
+    (λ x y. adopt-refused a.words.now a.pair.now a.first a.size a.memory ours _
+    c.peer.ensures _ c.in_err-k.ensures.refusal (λ z. omega (arith, number-positive c.in_err-k.field-0.0, z)))
+    (both_right a.words.now a.pair.now c.if-words-ne-TABLE_WORDS.false c.if-pair-ne-WORDS.false) (λ n. refl))
 
 pub returns : goal.returns
 returns c =
@@ -38,6 +36,6 @@ returns c =
     sym c.own.ensures ∙ c.if-own.false ∙ c.own-2.ensures in
     adopts _ _ _ _ _ _ _
     (λ x y. adopt-done a.words.now a.pair.now a.first a.size a.memory ours _
-    c.peer-source.ensures _ c.register_refusal-refusal.ensures c.if-refusal-ne0.false _ _ c.place_of-k.ensures
+    c.peer.ensures _ c.in_ok-k.ensures.refusal refl _ _ c.in_ok-k.ensures.place.0
     c.put_entry.ensures)
     (both_right a.words.now a.pair.now c.if-words-ne-TABLE_WORDS.false c.if-pair-ne-WORDS.false) (λ n. absurd (n refl))

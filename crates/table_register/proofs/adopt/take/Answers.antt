@@ -13,11 +13,11 @@ returns-then-source-eq0 c =
     takes_out _ _ _ _ _ (λ p q. (take_none a.words.now a.source c.if-source-eq0.true, λ z. absurd (omega arith)))
     (both_right a.words.now a.pair.now c.if-words-ne-TABLE_WORDS.false c.if-pair-ne-WORDS.false) (λ n. refl)
 
-pub returns-then-k-ge-PLACES : goal.returns-then-k-ge-PLACES
-returns-then-k-ge-PLACES c =
+pub returns-in_default : goal.returns-in_default
+returns-in_default c =
     let a = c.args in
     takes_out _ _ _ _ _ (λ p q. (
-      take-unknown a.words.now a.source c.if-source-eq0.false _ c.place_of-k.ensures c.if-k-ge-PLACES.true,
+      take-unknown a.words.now a.source c.if-source-eq0.false _ refl c.in_default.ensures.none,
       λ z. absurd (omega arith),
     ))
     (both_right a.words.now a.pair.now c.if-words-ne-TABLE_WORDS.false c.if-pair-ne-WORDS.false)
@@ -26,9 +26,9 @@ returns-then-k-ge-PLACES c =
 pub returns : goal.returns
 returns c =
     let a = c.args in
-    let k = c.place_of-k.result in
-    let t = taken a.words.now a.source c.if-source-eq0.false k c.place_of-k.ensures _
-    (pair_at k + 67 - pair_at k) c.if-k-ge-PLACES.false (omega arith) c.copy_words.ensures in
+    let k = c.in-Some.k in
+    let t = taken a.words.now a.source c.if-source-eq0.false k c.in-Some.ensures.some.0 _
+    (pair_at k + 67 - pair_at k) c.in-Some.ensures.some.1 (omega arith) c.copy_from_slice.ensures.after in
     takes_out _ _ _ _ _ (λ p q. (t.0, λ z. t.1))
     (both_right a.words.now a.pair.now c.if-words-ne-TABLE_WORDS.false c.if-pair-ne-WORDS.false)
     (λ n. absurd (n refl))

@@ -1,11 +1,7 @@
 -- `table_words::describe::describe` stores our ID, and then the places in turn.
 -- Assumes nothing.
-use Prim.Native.Nat.{◌-◌}
 use Rattle.table_words.proofs.describe.Describing.{Storing}
 use Rattle.table_words.proofs.describe.describe.Given as goal
 
 abbrev pub invariant-loop-k : goal.invariant-loop-k
 invariant-loop-k l = Storing l.w l.out l.k
-
-abbrev pub decreases-loop-k : goal.decreases-loop-k
-decreases-loop-k l = 16 - l.k

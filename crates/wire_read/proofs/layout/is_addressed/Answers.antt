@@ -1,21 +1,15 @@
 -- `wire_read::layout::is_addressed`: both IDs, the destination first.
 -- Assumes nothing.
-use mathlib.Core.Path.{ap}
-use borrow.Author.Tests.{eq-eqb, ne_eqb}
-use Rattle.wire.specs.declared.FrameHeader.{FrameHeader}
+use native.Mathlib.Omega.{arith}
+use Rattle.std.proofs.lemmas.Bool.Decides.{nat_tests}
 use Rattle.wire.specs.Reading.{addressed}
 use Rattle.wire_read.specs.Finding.{header_of}
 use Rattle.wire_read.proofs.layout.is_addressed.Goals as goal
 
 pub returns-then-head-own : goal.returns-then-head-own
 unfolding addressed header_of
-returns-then-head-own c =
-    let to = ap (λ (h : FrameHeader). h.destination) c.frame_header-head.ensures in
-    rw (← to, ne_eqb _ _ c.if-head-own.true)
+returns-then-head-own c = grind (arith, nat_tests)
 
-pub returns : goal.returns
+pub returns-else-head-own : goal.returns-else-head-own
 unfolding addressed header_of
-returns c =
-    let to = ap (λ (h : FrameHeader). h.destination) c.frame_header-head.ensures in
-    let from = ap (λ (h : FrameHeader). h.source) c.frame_header-head.ensures in
-    rw (← to, eq-eqb _ _ c.if-head-own.false, ← from)
+returns-else-head-own c = grind (arith, nat_tests)

@@ -5,8 +5,8 @@ use lib.ListN.{length}
 use Rattle.wire_read.proofs.layout.Reading.{Walked}
 use Rattle.wire_read.proofs.layout.walk.Given as goal
 
-abbrev pub invariant-loop-len : goal.invariant-loop-len
-invariant-loop-len l = Walked l.f l.at l.messages l.bytes × (length l.f ≤ 9000)
+abbrev pub invariant-loop-found : goal.invariant-loop-found
+invariant-loop-found l = Walked l.f l.at l.messages l.data_bytes × (length l.f ≤ 9000)
 
-abbrev pub decreases-loop-len : goal.decreases-loop-len
-decreases-loop-len l = length l.f + 18 - l.at
+abbrev pub decreases-loop-found : goal.decreases-loop-found
+decreases-loop-found l = length l.f + 18 - l.at

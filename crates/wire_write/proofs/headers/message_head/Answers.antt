@@ -1,72 +1,35 @@
 -- `wire_write::headers::message_head` is the definition's 24 bytes, in its own shape.
 -- Assumes nothing.
-use mathlib.Core.Path.{refl}
+use mathlib.Core.Path.{◌≡◌, ◌∙◌}
+use Prim.Native.Nat.{ℕ, ◌/◌}
+use native.Mathlib.Omega.{arith}
+use Rattle.std.specs.Int.{bytes_low_first}
 use Rattle.octets.specs.Octets.{little}
-use Rattle.octets.proofs.Octets.{byte_fits}
 use Rattle.wire.specs.Format.{carrying}
 use Rattle.wire.specs.Writing.{message_head}
 use Rattle.wire_write.proofs.headers.message_head.Goals as goal
 
-pub overflow_cast-result : goal.overflow_cast-result
-overflow_cast-result c = byte_fits _
-
-pub overflow_cast-result-2 : goal.overflow_cast-result-2
-overflow_cast-result-2 c = byte_fits _
-
-pub overflow_cast-result-3 : goal.overflow_cast-result-3
-overflow_cast-result-3 c = byte_fits _
-
-pub overflow_cast-result-4 : goal.overflow_cast-result-4
-overflow_cast-result-4 c = byte_fits _
-
-pub overflow_cast-result-5 : goal.overflow_cast-result-5
-overflow_cast-result-5 c = byte_fits _
-
-pub overflow_cast-result-6 : goal.overflow_cast-result-6
-overflow_cast-result-6 c = byte_fits _
-
-pub overflow_cast-result-7 : goal.overflow_cast-result-7
-overflow_cast-result-7 c = byte_fits _
-
-pub overflow_cast-result-8 : goal.overflow_cast-result-8
-overflow_cast-result-8 c = byte_fits _
-
-pub overflow_cast-result-9 : goal.overflow_cast-result-9
-overflow_cast-result-9 c = byte_fits _
-
-pub overflow_cast-result-10 : goal.overflow_cast-result-10
-overflow_cast-result-10 c = byte_fits _
-
-pub overflow_cast-result-11 : goal.overflow_cast-result-11
-overflow_cast-result-11 c = byte_fits _
-
-pub overflow_cast-result-12 : goal.overflow_cast-result-12
-overflow_cast-result-12 c = byte_fits _
-
-pub overflow_cast-result-13 : goal.overflow_cast-result-13
-overflow_cast-result-13 c = byte_fits _
-
-pub overflow_cast-result-14 : goal.overflow_cast-result-14
-overflow_cast-result-14 c = byte_fits _
-
-pub overflow_cast-result-15 : goal.overflow_cast-result-15
-overflow_cast-result-15 c = byte_fits _
-
-pub overflow_cast-result-16 : goal.overflow_cast-result-16
-overflow_cast-result-16 c = byte_fits _
-
-pub overflow_cast-result-17 : goal.overflow_cast-result-17
-overflow_cast-result-17 c = byte_fits _
-
-pub overflow_cast-result-18 : goal.overflow_cast-result-18
-overflow_cast-result-18 c = byte_fits _
-
-pub overflow_cast-result-19 : goal.overflow_cast-result-19
-overflow_cast-result-19 c = byte_fits _
-
-pub overflow_cast-result-20 : goal.overflow_cast-result-20
-overflow_cast-result-20 c = byte_fits _
+four_bytes : (n : ℕ) → bytes_low_first 0 4 n ≡ little 4 n
+unfolding little
+four_bytes n =
+    let two : n / 65536 ≡ n / 256 / 256 = omega arith in
+    let three : n / 16777216 ≡ n / 256 / 256 / 256 = omega arith in
+    rw (two, three)
 
 pub returns : goal.returns
 unfolding message_head carrying little
-returns c = refl
+returns c =
+    rw (
+      c.copy_from_slice.ensures.after,
+      c.copy_from_slice-2.ensures.after,
+      c.copy_from_slice-3.ensures.after,
+      c.copy_from_slice-4.ensures.after,
+      c.copy_from_slice-5.ensures.after,
+      c.copy_from_slice-6.ensures.after,
+      c.to_le_bytes.ensures ∙ four_bytes _,
+      c.to_le_bytes-2.ensures ∙ four_bytes _,
+      c.to_le_bytes-3.ensures ∙ four_bytes _,
+      c.to_le_bytes-4.ensures,
+      c.to_le_bytes-5.ensures ∙ four_bytes _,
+      c.to_le_bytes-6.ensures,
+    )
